@@ -1,0 +1,10 @@
+pub mod Choice
+pub mod Sequences
+pub mod Widths
+pub mod Buffers
+pub mod Decoding
+pub mod Characters
+pub mod Spaces
+pub mod Rooms
+pub mod Marks
+pub mod Texts

@@ -1,0 +1,5 @@
+pub mod Choice
+pub mod Utf8
+pub mod Space
+pub mod Mark
+pub mod Encoding
