@@ -1,0 +1,15 @@
+pub mod Text
+pub mod Scan
+pub mod Tokens
+pub mod Tables
+pub mod Segment
+pub mod Comments
+pub mod Numbers
+pub mod Names
+pub mod Marks
+pub mod Strings
+pub mod Characters
+pub mod Docs
+pub mod Lexer
+pub mod Script
+pub mod Shift
