@@ -6,3 +6,12 @@ pub mod Join
 pub mod Tells
 pub mod Open
 pub mod Demand
+pub mod Small
+pub mod Every
+pub mod Bounds
+pub mod Sources
+pub mod Faults
+pub mod Sizes
+pub mod Starts
+pub mod Spans
+pub mod Fits

@@ -21,7 +21,7 @@ closeChar cs t fs rest =
     if startsWith (text "'") rest then charToken (cs ++ text "'") t fs false
     else charToken cs t (fs ++ (fault UnterminatedCharacter (length cs) (length cs) ∷ [])) false
 
--- Lines 783 to 836: `cs` is what stands behind the backslash. A letter that is no escape's stands for itself (line 829).
+-- Lines 782 to 832: `cs` is what stands behind the backslash. A letter that is no escape's stands for itself (line 826).
 unfoldable pub charEscape : Text → Segment
 charEscape [] = charToken (text "'\\") [] (fault UnterminatedCharacter 2 2 ∷ []) true
 charEscape (e ∷ cs) =

@@ -8,18 +8,18 @@ use Rattle.rules.specs.Scan.{run, Upto, closing}
 use Rattle.rules.specs.Tables.{UnterminatedBlockComment}
 use Rattle.rules.specs.Segment.{Segment, space, comment, skipped, fault}
 
--- Lines 349 to 356.
+-- Lines 349 to 355.
 unfoldable pub whiteSpace : Char → Segment
 whiteSpace c = skipped space (c ∷ []) [] false
 
 abbrev pub notLF : Char → Bool
 notLF c = not (c is LF)
 
--- Lines 368 to 375: `rest` is what stands behind the two slashes.
+-- Lines 366 to 373: `rest` is what stands behind the two slashes.
 unfoldable pub lineComment : Text → Segment
 lineComment rest = skipped comment (text "//" ++ run notLF rest .taken) [] false
 
--- Lines 376 to 405: `u` is what stands behind `/*`, up to the next `*/`.
+-- Lines 374 to 403: `u` is what stands behind `/*`, up to the next `*/`.
 unfoldable pub blockComment : Upto → Segment
 blockComment u =
     let cs = text "/*" ++ (u .before ++ closing (text "*/") u) in

@@ -46,7 +46,7 @@ joinLines [] = []
 joinLines (l ∷ []) = l
 joinLines (l ∷ m ∷ ms) = l ++ (LF ∷ joinLines (m ∷ ms))
 
--- Lines 972 to 982: each line trimmed, leading stars and then space off, joined by line feeds, trimmed.
+-- Lines 973 to 981: each line trimmed, leading stars and then space off, joined by line feeds, trimmed.
 unfoldable pub cleanLine : Text → Text
 cleanLine l = trimStart (stripStars (trim l))
 
@@ -69,7 +69,7 @@ blockDoc u =
     (if u .open-end then fault UnterminatedDocComment 0 (length cs) ∷ [] else [])
     (u .open-end)
 
--- `cs` is what stands behind the slash. `/**/` is an ordinary comment (lines 359 to 366 and 949).
+-- `cs` is what stands behind the slash. `/**/` is an ordinary comment (lines 359 to 362 and 949).
 unfoldable pub parseSlashOrComment : Text → Segment
 parseSlashOrComment cs =
     if startsWith (text "//") cs then lineDoc (drop 2 cs)

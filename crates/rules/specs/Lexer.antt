@@ -75,11 +75,11 @@ unfoldable pub advances : Position → Text → Position
 advances p [] = p
 advances p (c ∷ cs) = advances (advance p c) cs
 
--- The column that a line feed skipped as space leaves: 2 (lines 351 to 356, `self.col = 1` and then `self.col += 1`).
+-- The column that a line feed skipped as space leaves: 2 (lines 350 to 355, `self.col = 1` and then `self.col += 1`).
 unfoldable pub skippedLineColumn : ℕ
 skippedLineColumn = 2
 
--- Past a character of white space (lines 349 to 356).
+-- Past a character of white space (lines 349 to 355).
 unfoldable pub skip : Position → Char → Position
 skip p c =
     if c is LF then record { offset = p .offset + width c; line = suc (p .line); col = skippedLineColumn }

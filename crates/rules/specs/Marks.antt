@@ -1,5 +1,5 @@
 -- Delimiters and marks: `delim_token` (lexer.rs, lines 313 to 320), `parse_plus` to `parse_question` (lines 857 to 1221), and a
--- character that begins nothing (lines 248 to 256).
+-- character that begins nothing (lines 249 to 257).
 use mathlib.Core.Bool.{Bool, true, false}
 use mathlib.Core.List.{List, [], _∷_}
 use mathlib.Core.Option.{Option, none, some}

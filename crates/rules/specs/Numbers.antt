@@ -8,7 +8,7 @@ use Rattle.rules.specs.Scan.{next, Part, nothing, takes, run, one, _and-
 use Rattle.rules.specs.Tables.{IntLiteral, FloatLiteral}
 use Rattle.rules.specs.Segment.{Segment, wholeToken}
 
--- The digits after 0x and those after 0b: no underscore (lines 430 to 437 and 447 to 454).
+-- The digits after 0x and those after 0b: no underscore (lines 430 to 437 and 446 to 453).
 unfoldable pub hexPart : Char → Bool
 hexPart c = isHexDigit c
 
@@ -19,7 +19,7 @@ binaryPart c = oneOf (text "01") c
 abbrev pub maybeSuffix : Text → Part
 maybeSuffix = one (oneOf (text "LlfFdDuU"))
 
--- A zero, a letter, the digits after them, a suffix (lines 424 to 460).
+-- A zero, a letter, the digits after them, a suffix (lines 423 to 459).
 unfoldable pub radix : (Char → Bool) → Text → Segment
 radix isRadixDigit cs =
     wholeToken IntLiteral
@@ -28,21 +28,21 @@ radix isRadixDigit cs =
 unfoldable pub isDigitOrUnderscore : Char → Bool
 isDigitOrUnderscore c = isDigit c || c is ch "_"
 
--- The whole part (lines 463 to 470).
+-- The whole part (lines 462 to 469).
 abbrev pub wholePart : Text → Part
 wholePart = run isDigitOrUnderscore
 
--- A point belongs only before a digit (lines 473 to 491).
+-- A point belongs only before a digit (lines 472 to 489).
 unfoldable pub fraction : Text → Part
 fraction [] = nothing []
 fraction (c ∷ cs) = if c is ch "." && next isDigit cs then takes c (run isDigitOrUnderscore cs) else nothing (c ∷ cs)
 
--- Lines 494 to 513.
+-- Lines 492 to 512.
 unfoldable pub exponent : Text → Part
 exponent [] = nothing []
 exponent (c ∷ cs) = if oneOf (text "eE") c then takes c ((one (oneOf (text "+-")) and-then run isDigit) cs) else nothing (c ∷ cs)
 
--- A number with a fraction or an exponent is a float (`is_float`); a suffix says nothing of it.
+-- A number with a fraction or an exponent is a float (`is_float`, line 517); a suffix says nothing of it.
 unfoldable pub decimalKind : Text → ℕ
 decimalKind cs =
     if isEmpty ((fraction and-then exponent) (wholePart cs .left) .taken) then IntLiteral else FloatLiteral

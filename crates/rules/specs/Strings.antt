@@ -21,7 +21,7 @@ parseRawString u =
     (if u .open-end then fault UnterminatedRawString 0 (length cs) ∷ [] else [])
     (u .open-end)
 
--- ── Escapes, of strings (lines 644 to 699) and of characters (lines 784 to 836) ──
+-- ── Escapes, of strings (lines 647 to 700) and of characters (lines 785 to 831) ──
 
 -- What an escape makes. `extra` is how many characters behind the escape's letter belong to it (`hex_extra`).
 pub record Escape : Type 0 where
@@ -99,18 +99,18 @@ pub data Turn : Type 0 where
 unfoldable pub flush : ℕ → Text → List Piece
 flush i buf = if isEmpty buf then [] else piece StringLiteral buf i ∷ []
 
--- A letter that is no escape's keeps its backslash (lines 685 to 692).
+-- A letter that is no escape's keeps its backslash (lines 688 to 695).
 unfoldable pub otherEscape : ℕ → Char → Escape
 otherEscape i e = record { text = ch "\\" ∷ e ∷ []; extra = 0; faults = faultOf BadEscape i i e ∷ [] }
 
--- The backslash stands at the place `i`, before the text (lines 643 to 700).
+-- The backslash stands at the place `i`, before the text (lines 643 to 701).
 unfoldable pub stringEscape : ℕ → Text → Bool → Text → Turn
 stringEscape i buf interp [] = on [] [] true 0 buf interp
 stringEscape i buf interp (e ∷ cs) =
     let x = escape (suc i) (otherEscape (suc i) e) e cs in
     on [] (x .faults) false (suc (x .extra)) (buf ++ x .text) interp
 
--- `${` stands at the place `i`, before what `u` tells (lines 711 to 737).
+-- `${` stands at the place `i`, before what `u` tells (lines 711 to 736).
 unfoldable pub braceInterp : ℕ → Text → Upto → Turn
 braceInterp i buf u =
     let cs = text "${" ++ (u .before ++ closing (text "}") u) in
@@ -123,7 +123,7 @@ braceInterp i buf u =
     []
     true
 
--- `$` and a name stand at the place `i` (lines 738 to 755).
+-- `$` and a name stand at the place `i` (lines 737 to 753).
 unfoldable pub nameInterp : ℕ → Text → Text → Turn
 nameInterp i buf name =
     on
@@ -134,11 +134,11 @@ nameInterp i buf name =
     []
     true
 
--- An interpolation begins with this character behind the dollar sign (`is_interp`, lines 703 to 705).
+-- An interpolation begins with this character behind the dollar sign (`is_interp`, lines 704 to 706).
 unfoldable pub isInterpStart : Char → Bool
 isInterpStart c = c is ch "{" || (isIdentStart c && not (c is ch "$"))
 
--- A `$` stands at the place `i`, before the text (lines 701 to 759).
+-- A `$` stands at the place `i`, before the text (lines 702 to 758).
 unfoldable pub stringDollar : ℕ → Text → Bool → Text → Turn
 stringDollar i buf interp cs =
     if next isInterpStart cs then
@@ -170,7 +170,7 @@ stringFrom zero i buf interp (c ∷ cs) =
 unfoldable pub parseStringTokens : Text → Segment
 parseStringTokens cs = first (ch "\"") (stringFrom 0 1 [] false cs)
 
--- ── The choice between the two (lines 229 to 240) ──
+-- ── The choice between the two (lines 230 to 242) ──
 
 -- `cs` is what stands behind the quote.
 unfoldable pub parseQuote : Text → Segment

@@ -95,7 +95,7 @@ keywordIn (row ∷ rows) t = if sameText t (row .0) then row .1 else keywordIn r
 unfoldable pub lookupKeyword : Text → ℕ
 lookupKeyword t = keywordIn KEYWORDS t
 
--- The marks (lines 202 to 226 and 857 to 1221): a row for each first mark, with its kind when it stands alone, and a column for each
+-- The marks (lines 204 to 228 and 857 to 1221): a row for each first mark, with its kind when it stands alone, and a column for each
 -- next mark, with the kind of the two.
 abbrev pub Columns : Type 0
 Columns = List (Char × ℕ)
@@ -127,12 +127,12 @@ MARKS =
     ∷ (ch "%", row 73 ((ch "=", 81) ∷ []))
     ∷ []
 
--- Where a third mark equal to the second makes another token (lines 1060 to 1070, 1094 to 1102, 1189 to 1196): the kind of the two,
+-- Where a third mark equal to the second makes another token (lines 1060 to 1075, 1094 to 1109, 1187 to 1201): the kind of the two,
 -- and the kind of the three.
 unfoldable pub THIRDS : List (ℕ × ℕ)
 THIRDS = (94, 125) ∷ (95, 96) ∷ (116, 117) ∷ []
 
--- An escape's letter, and the character that it stands for (lines 649 to 661 and 789 to 801). `\u` is apart.
+-- An escape's letter, and the character that it stands for (lines 650 to 662 and 788 to 800). `\u` is apart.
 unfoldable pub ESCAPES : List (Char × Char)
 ESCAPES =
     (ch "n", 0xA) ∷ (ch "t", 0x9) ∷ (ch "r", 0xD) ∷ (ch "\\", ch "\\") ∷ (ch "'", ch "'") ∷ (ch "\"", ch "\"")

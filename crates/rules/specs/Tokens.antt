@@ -1,4 +1,4 @@
--- Tokens and errors, as in token.rs. A kind is its place in `TokenKind` (token.rs, lines 6 to 159), from 0.
+-- Tokens and errors, as in token.rs. A kind is its place in `TokenKind` (token.rs, lines 6 to 158), from 0.
 use Prim.Native.Nat.{ℕ}
 use mathlib.Core.List.{List}
 use mathlib.Core.Option.{Option}

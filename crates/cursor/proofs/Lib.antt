@@ -1,0 +1,4 @@
+pub mod Inside
+pub mod Units
+pub mod Pieces
+pub mod Steps

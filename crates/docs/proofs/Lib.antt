@@ -1,0 +1,5 @@
+pub mod Trimming
+pub mod Joining
+pub mod Places
+pub mod Cleaning
+pub mod Parts

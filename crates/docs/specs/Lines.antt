@@ -1,0 +1,77 @@
+-- What the functions of the doc comments' cleaner answer. `s` is the part of a script between a comment's marks; places are bytes
+-- of it.
+use mathlib.Core.Path.{_≡_}
+use mathlib.Core.Bool.{Bool, false, _&&_, not}
+use mathlib.Core.List.{List, [], _∷_, _++_}
+use Prim.Native.Nat.{ℕ, _+_, _≤_, _<_}
+use lib.ListN.{length, replicate}
+use lib.Seq.{slice}
+use Rattle.characters.specs.Choice.{if_then_else_, _is_}
+use Rattle.characters.specs.Space.{isWhite}
+use Rattle.characters.specs.Utf8.{width, charsAt, encode}
+use Rattle.rules.specs.Text.{Char, Text, ch, LF, isEmpty}
+use Rattle.rules.specs.Scan.{run}
+use Rattle.output.specs.Writing.{Put}
+use Rattle.docs.specs.declared.Next.{Next}
+use Rattle.docs.specs.declared.Next.the-variants as next
+use Rattle.docs.specs.declared.Line.{Line}
+
+-- ── Walks ──
+
+-- The character `c` stands at a place, and `n` is the place after it.
+pub record CharAt (s : List ℕ) (at c n : ℕ) : Type 0 where
+  pub chars : charsAt s at ≡ c ∷ charsAt s n
+  pub place : n ≡ at + width c
+  pub inside : n ≤ length s
+
+-- What stands at a place: a character; or no character is left.
+abbrev pub NextAt : List ℕ → ℕ → Next → Type 0
+NextAt s at (next.Char c n) = CharAt s at c n
+NextAt s at next.Nothing = charsAt s at ≡ []
+
+-- From one place to another, past the characters that pass the test.
+pub record Skipped (test : Char → Bool) (s : List ℕ) (from to : ℕ) : Type 0 where
+  pub rest : charsAt s to ≡ run test (charsAt s from) .left
+  pub forth : from ≤ to
+  pub inside : to ≤ length s
+
+unfoldable pub isStar : Char → Bool
+isStar c = c is ch "*"
+
+-- A character of a line. Where the part is split, a line feed ends the line; else the whole part is one line.
+unfoldable pub inLine : Bool → Char → Bool
+inLine split c = not (split && c is LF)
+
+-- White space of a line.
+unfoldable pub isBlank : Bool → Char → Bool
+isBlank split c = isWhite c && inLine split c
+
+-- The line from a place on, made clean: the bytes that make it up, and where the next line begins.
+pub record LineAt (clean : Text → Text) (split : Bool) (s : List ℕ) (at : ℕ) (l : Line) : Type 0 where
+  pub text : slice (l .from) (l .to) s ≡ encode (clean (run (inLine split) (charsAt s at) .taken))
+  pub left : run (inLine split) (charsAt s at) .left ≡ (if l .last then [] else (LF ∷ charsAt s (l .next)))
+  pub begins : at ≤ l .from
+  pub forth : l .from ≤ l .to
+  pub inside : l .to ≤ length s
+  pub goes : l .last ≡ false → l .to < l .next
+  pub within : l .next ≤ length s
+
+-- ── The cleaned text, line by line ──
+
+-- What a line adds: nothing where it is empty, else the line feeds that wait, and the line.
+unfoldable pub lineText : ℕ → Text → Text
+lineText k l = if isEmpty l then [] else (replicate k LF ++ l)
+
+-- The line feeds that wait after a line, by whether it is empty: none before the first line that is not, one after such a line, and
+-- one more after each empty line.
+unfoldable pub feedsAfter : ℕ → Bool → ℕ
+feedsAfter k empty = if empty then (if k is 0 then 0 else (k + 1)) else 1
+
+unfoldable pub linesText : ℕ → List Text → Text
+linesText k [] = []
+linesText k (l ∷ ls) = lineText k l ++ linesText (feedsAfter k (isEmpty l)) ls
+
+-- A text was written from a place on, with no more bytes than the part has.
+pub record Written (s old new : List ℕ) (at : ℕ) (t : Text) (r : ℕ) : Type 0 where
+  pub put : Put old new at (encode t) r
+  pub small : r ≤ at + length s

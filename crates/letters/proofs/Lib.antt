@@ -1,0 +1,3 @@
+pub mod CharLaws
+pub mod LetterLaws
+pub mod CloseLaws

@@ -1,0 +1,3 @@
+pub mod Tokenize
+pub mod Run
+pub mod Places

@@ -1,0 +1,77 @@
+-- `output::put_token` meets its contract. Where the whole fits it is written at once; else it is made in a small buffer, whose
+-- front is copied as far as it fits. Assumes nothing.
+use mathlib.Core.Path.{sym, _∙_}
+use native.Mathlib.Omega.{arith}
+use lib.ListN.{replicate}
+use borrow.Author.Needs.{needs}
+use Rattle.records.specs.Records.{tokenRecord}
+use Rattle.records.proofs.Bytes.{length-token}
+use Rattle.output.proofs.Lengths.{record-bounds}
+use Rattle.output.proofs.Buffers.{whole-room, whole-put, cut-put, same-size}
+use Rattle.output.proofs.put_token.Statement.{statement}
+use Rattle.output.proofs.put_token.Tie as tie
+
+record-length-requires : tie.Need-record-length-requires
+record-length-requires c κs = search needs
+
+fitting-requires : tie.Need-fitting-requires
+fitting-requires c κs = search needs
+
+put-token-requires : tie.Need-put-token-requires
+put-token-requires c κs =
+    let a = c .before .before .before .before .before .args in
+    whole-room _ _ _ _ _ (c .before .before .fitting .ensures) (c .before .if1 .taken)
+    (c .before .before .before .record-length .ensures) (record-bounds (a .kind) .0)
+
+same-length : tie.Need-same-length
+same-length c = search needs
+
+returns : tie.Need-returns
+returns c =
+    let a = c .before .before .before .before .before .before .before .before .args in
+    let p = c .before .before .put-token .ensures in
+    whole-put _ _ _ _ _ _ (length-token (a .kind) (a .span) (a .offset) (a .len)) (p .0) (p .1)
+
+slice-aggregate-put-token : tie.Need-slice-aggregate-put-token
+slice-aggregate-put-token c = search needs
+
+put-token-requires-2 : tie.Need-put-token-requires-2
+put-token-requires-2 c κs = omega (arith, record-bounds (c .before .before .before .before .before .args .kind))
+
+slice-aggregate-put-part : tie.Need-slice-aggregate-put-part
+slice-aggregate-put-part c = search needs
+
+put-part-requires : tie.Need-put-part-requires
+put-part-requires c κs =
+    let a = c .before .before .before .before .before .before .before .before .before .args in
+    let n = c .before .before .before .before .before .before .before .record-length .ensures in
+    let v = tokenRecord (a .kind) (a .span) (a .offset) (a .len) in
+    let s = same-size _ (replicate 33 0) 0 v (c .before .before .before .put-token2 .ensures .1) in
+    omega (arith, record-bounds (a .kind))
+
+same-length-2 : tie.Need-same-length-2
+same-length-2 c = search needs
+
+returns-2 : tie.Need-returns-2
+returns-2 c =
+    let a = c .before .before .before .before .before .before .before .before .before .before .before .before .args in
+    let n = c .before .before .before .before .before .before .before .before .before .before .record-length .ensures in
+    let m = record-bounds (a .kind) in
+    cut-put _ _ _ (replicate 33 0) _ _ _ _ (length-token (a .kind) (a .span) (a .offset) (a .len) ∙ sym n) (omega (arith, m))
+    (c .before .before .before .before .before .before .put-token2 .ensures .1) (c .before .before .put-part .ensures)
+
+pub put-token-spec : {M : Type 1} → statement M
+put-token-spec =
+    tie.close
+    (tie.spec
+    record-length-requires
+    fitting-requires
+    put-token-requires
+    same-length
+    returns
+    slice-aggregate-put-token
+    put-token-requires-2
+    slice-aggregate-put-part
+    put-part-requires
+    same-length-2
+    returns-2)

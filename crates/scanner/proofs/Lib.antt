@@ -1,0 +1,10 @@
+pub mod Entries
+pub mod Founds
+pub mod Plain
+pub mod Words
+pub mod Giving
+pub mod Begun
+pub mod Parts
+pub mod Others
+pub mod Insides
+pub mod Choices

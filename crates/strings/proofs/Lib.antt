@@ -1,0 +1,7 @@
+pub mod Digits
+pub mod Letters
+pub mod Opens
+pub mod UnitLaws
+pub mod RunLaws
+pub mod InterpLaws
+pub mod PieceLaws

@@ -1,0 +1,41 @@
+-- What a row of units promises.
+use mathlib.Core.Path.{_≡_}
+use mathlib.Core.Bool.{Bool, true, false}
+use mathlib.Core.List.{List, [], _++_}
+use Prim.Native.Nat.{ℕ, _+_, _*_, _≤_}
+use lib.ListN.{length, take}
+use Rattle.characters.specs.Utf8.{charsAt, encode}
+use Rattle.spans.specs.declared.Position.{Position}
+use Rattle.rules.specs.Text.{Text}
+use Rattle.rules.specs.Tokens.{TokenizeError}
+use Rattle.cursor.specs.Strings.{stands, unitsMade, unitsErrors, unitsAhead}
+use Rattle.cursor.specs.Cursor.{andThen, held}
+use Rattle.bridge.specs.Bridge.{Reach}
+use Rattle.output.specs.Writing.{Put}
+use Rattle.strings.specs.declared.Run.{Run}
+use Rattle.records.specs.Layout.{errorBytes}
+
+-- The bytes used so far are few enough that every sum of a script's texts and errors fits.
+pub record Room (ut ue : ℕ) : Type 0 where
+  pub texts : ut ≤ 1099511627776
+  pub errors : ue ≤ 1099511627776
+
+-- The characters from a position on that belong to the units there, what these make, and their errors.
+abbrev pub runChars : List ℕ → Position → Text
+runChars s p = take (unitsAhead (charsAt s (p .offset))) (charsAt s (p .offset))
+
+abbrev pub runMade : List ℕ → Position → Text
+runMade s p = unitsMade (unitsAhead (charsAt s (p .offset))) (charsAt s (p .offset))
+
+abbrev pub runErrors : List ℕ → Position → List TokenizeError
+runErrors s p = unitsErrors (unitsAhead (charsAt s (p .offset))) p (charsAt s (p .offset))
+
+-- The units from `p` on, up to where none stands: what they make is written at `ut` of the texts, their errors at `ue` of the errors.
+-- They make no more bytes than they have, and their errors 29 bytes at most for each.
+pub record RunAt (s : List ℕ) (p : Position) (texts texts′ : List ℕ) (ut : ℕ) (errors errors′ : List ℕ) (ue : ℕ) (r : Run) : Type 0 where
+  pub reach : Reach s p (runChars s p) (r .at)
+  pub stops : stands (charsAt s (r .at .offset)) ≡ false
+  pub made : Put texts texts′ ut (encode (runMade s p)) (r .texts)
+  pub noted : Put errors errors′ ue (errorBytes (runErrors s p)) (r .errors)
+  pub small : p .offset + length (encode (runMade s p)) ≤ r .at .offset
+  pub few : 29 * p .offset + length (errorBytes (runErrors s p)) ≤ 29 * r .at .offset

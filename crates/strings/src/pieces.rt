@@ -1,0 +1,85 @@
+// One step inside a string: a literal piece, an interpolation, or the end of the string.
+ghost use mathlib.Core.Path.{_≡_};
+ghost use Prim.Native.Nat.{_≤_};
+ghost use Rattle.bridge.specs.Bridge.{Within};
+ghost use Rattle.strings.specs.Runs.{Room};
+ghost use Rattle.strings.specs.Pieces.{literalPiece, PieceAt};
+use bridge::Ahead;
+use cursor::Cursor;
+use records::answers::TokenRecord;
+use spans::Position;
+use super::Piece;
+use super::Given;
+use super::Run;
+use super::interpolations;
+use super::runs;
+use walks::error;
+
+// The literal from `start` to `end` whose text stands in the texts from a place on, up to where the run `r` left off.
+fn literal(
+    start: Position,
+    end: Position,
+    from: usize,
+    r: Run,
+    next: Cursor,
+    ran_out: bool,
+    errors: usize,
+) -> Piece
+    requires { ⌜ from ≤ r .texts ⌝ }
+    ensures { λ x. ⌜ x ≡ literalPiece start end from r next «ran_out» errors ⌝ }
+{
+    let to = r.texts;
+    let token = TokenRecord {
+        kind: 2,
+        span: error::between(start, end),
+        offset: from,
+        length: to - from,
+    };
+    Piece::Token(Given {
+        token,
+        next,
+        ran_out,
+        texts: to,
+        errors,
+    })
+}
+
+// The step at p, inside the string that began at `start`; `first` is whether the string has only begun.
+pub fn piece(
+    text: &[u8],
+    p: Position,
+    start: Position,
+    first: bool,
+    texts: &mut [u8],
+    used_texts: usize,
+    errors: &mut [u8],
+    used_errors: usize,
+) -> Piece
+    requires { ⌜ Within (now text) p ⌝ }
+    requires { ⌜ Room «used_texts» «used_errors» ⌝ }
+    ensures { λ r. ⌜ PieceAt (now (text .entry)) p start first (now (texts .entry)) (now (texts .exit)) «used_texts» (now (errors .entry)) (now (errors .exit)) «used_errors» r ⌝ }
+{
+    let r = runs::run_units(text, p, texts, used_texts, errors, used_errors);
+    let stop = r.at;
+    let Ahead::Char(c, q) = bridge::look(text, stop) else {
+        let noted = error::put_unclosed(errors, r.errors, false, 4, stop, stop);
+        return literal(start, stop, used_texts, r, Cursor::Outside(stop), true, noted);
+    };
+    if c == 10 {
+        let noted = error::put_unclosed(errors, r.errors, false, 5, start, stop);
+        return literal(start, stop, used_texts, r, Cursor::Outside(stop), false, noted);
+    }
+    if c == 34 {
+        if first {
+            return literal(start, q, used_texts, r, Cursor::Outside(q), false, r.errors);
+        }
+        if r.texts == used_texts {
+            return Piece::Over(q, r.errors);
+        }
+        return literal(start, q, used_texts, r, Cursor::Outside(q), false, r.errors);
+    }
+    if r.texts == used_texts {
+        return Piece::Token(interpolations::interpolation(text, stop, start, texts, used_texts, errors, r.errors));
+    }
+    literal(start, stop, used_texts, r, Cursor::InString(start, stop), false, r.errors)
+}

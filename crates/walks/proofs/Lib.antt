@@ -1,0 +1,12 @@
+pub mod Starts
+pub mod Walks
+pub mod Openings
+pub mod Segments
+pub mod Enclosed
+pub mod Errors
+pub mod Whole
+pub mod Stops
+pub mod Skips
+pub mod Comments
+pub mod Unexpected
+pub mod Tokens

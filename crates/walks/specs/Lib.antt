@@ -1,0 +1,5 @@
+pub mod Errors
+pub mod Walks
+pub mod Segments
+pub mod Skips
+pub mod Tokens

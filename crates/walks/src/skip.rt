@@ -1,0 +1,117 @@
+// White space and the comments that are skipped.
+ghost use mathlib.Core.Path.{_≡_};
+ghost use Prim.Native.Nat.{_≤_};
+ghost use Rattle.characters.specs.Utf8.{charsAt};
+ghost use Rattle.rules.specs.Lexer as rules;
+ghost use Rattle.bridge.specs.Bridge.{Within};
+ghost use Rattle.walks.specs.Skips.{opensLine, opensBlock, WhiteAt, CommentAt, SkippedAt};
+use super::Closing;
+use super::Comment;
+use super::Skipped;
+use super::ahead;
+use super::error;
+use super::walk;
+use bridge::Ahead;
+use spans::Position;
+
+// The position behind the white space c at p, where q is the position behind it as in any other place.
+fn behind_white(p: Position, c: u32, q: Position) -> Position
+    requires { ⌜ q ≡ rules.advance p c ⌝ }
+    ensures { λ r. ⌜ r ≡ rules.skip p c ⌝ }
+{
+    if c == 10 {
+        return Position {
+            offset: q.offset,
+            line: q.line,
+            col: 2,
+        };
+    }
+    q
+}
+
+// Past white space.
+pub fn skip_white(text: &[u8], p: Position) -> Position
+    requires { ⌜ Within (now text) p ⌝ }
+    ensures { λ r. ⌜ WhiteAt (now (text .entry)) p r ⌝ }
+{
+    let mut at = p;
+    loop {
+        let Ahead::Char(c, q) = bridge::look(text, at) else {
+            return at;
+        };
+        if !characters::space::is_white(c) {
+            return at;
+        }
+        at = behind_white(at, c, q);
+    }
+}
+
+// Whether a comment to the end of its line begins at a place.
+fn line_at(text: &[u8], at: usize) -> bool
+    ensures { λ r. ⌜ r ≡ opensLine (charsAt (now (text .entry)) at) ⌝ }
+{
+    if ahead::pair_at(text, at, 47, 47) {
+        return !bridge::is_at(text, at + 2, 47);
+    }
+    false
+}
+
+// Whether a block comment begins at a place.
+fn block_at(text: &[u8], at: usize) -> bool
+    ensures { λ r. ⌜ r ≡ opensBlock (charsAt (now (text .entry)) at) ⌝ }
+{
+    if ahead::pair_at(text, at, 47, 42) {
+        if bridge::is_at(text, at + 2, 42) {
+            return bridge::is_at(text, at + 3, 47);
+        }
+        return true;
+    }
+    false
+}
+
+// The comment at a position.
+fn comment_at(text: &[u8], p: Position) -> Comment
+    requires { ⌜ Within (now text) p ⌝ }
+    ensures { λ r. ⌜ CommentAt (now (text .entry)) p r ⌝ }
+{
+    if line_at(text, p.offset) {
+        let c = walk::to_feed(text, bridge::along(p, 2));
+        let at = c.at;
+        return Comment::Past(Closing { at, found: true });
+    }
+    if block_at(text, p.offset) {
+        let c = walk::to_pair(text, bridge::along(p, 2));
+        let at = walk::behind_mark(c, 2);
+        let found = c.found;
+        return Comment::Past(Closing { at, found });
+    }
+    Comment::Nothing
+}
+
+// Past white space and comments. The error of a comment that is not closed is written.
+pub fn skip(text: &[u8], p: Position, errors: &mut [u8], used: usize) -> Skipped
+    requires { ⌜ Within (now text) p ⌝ }
+    requires { ⌜ used ≤ 1152921504606846976 ⌝ }
+    ensures { λ r. ⌜ SkippedAt (now (text .entry)) p (now (errors .entry)) (now (errors .exit)) used r ⌝ }
+{
+    let mut at = skip_white(text, p);
+    loop {
+        let Comment::Past(c) = comment_at(text, at) else {
+            return Skipped {
+                at,
+                errors: used,
+                ran_out: false,
+            };
+        };
+        let end = c.at;
+        if !c.found {
+            let place = error::put_unclosed(errors, used, false, 2, at, end);
+            return Skipped {
+                at: end,
+                errors: place,
+                ran_out: true,
+            };
+        }
+        at = skip_white(text, end);
+    }
+}

@@ -1,0 +1,14 @@
+-- `keyword::keyword_table` meets its contract. Assumes nothing.
+use mathlib.Core.Path.{refl}
+use Rattle.rules.specs.Tables.{KEYWORDS}
+use Rattle.words.specs.Lists.{listFrom}
+use Rattle.words.specs.Keywords.{keywordsOf, keywordRows, lettersOf, kindOf, keywordEntry, keywordTable}
+use Rattle.words.proofs.keyword.keyword_table.Statement.{statement}
+use Rattle.words.proofs.keyword.keyword_table.Tie as tie
+
+returns : tie.Need-returns
+unfolding keywordTable listFrom keywordEntry lettersOf kindOf keywordRows keywordsOf KEYWORDS
+returns c = refl
+
+pub keyword-table-spec : {M : Type 1} → statement M
+keyword-table-spec = tie.close (tie.spec returns)

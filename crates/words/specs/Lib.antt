@@ -1,0 +1,5 @@
+pub mod Lists
+pub mod Classes
+pub mod Marks
+pub mod Keywords
+pub mod Words

@@ -1,0 +1,59 @@
+// Names: where one ends, and the name as a word.
+ghost use mathlib.Core.Path.{_≡_};
+ghost use mathlib.Core.Bool.{true};
+ghost use Prim.Native.Nat.{_≤_};
+ghost use lib.ListN.{length};
+ghost use Rattle.characters.specs.Utf8.{charsAt};
+ghost use Rattle.rules.specs.Text.{isIdentPart};
+ghost use Rattle.rules.specs.Scan.{next, run};
+ghost use Rattle.rules.specs.Names.{parseIdentifierOrKeyword};
+ghost use Rattle.bridge.specs.Bridge.{Cut};
+ghost use Rattle.words.specs.Keywords.{slotTable, keywordTable};
+ghost use Rattle.words.specs.Words.{WordAt};
+use super::Word;
+use super::keyword::name_kind;
+
+// A letter, a digit, an underscore or a dollar sign.
+pub fn is_part(b: u8) -> bool
+    ensures { λ r. ⌜ r ≡ isIdentPart b ⌝ }
+{
+    ((65 <= b) & (b <= 90))
+        | ((97 <= b) & (b <= 122))
+        | ((48 <= b) & (b <= 57))
+        | (b == 95)
+        | (b == 36)
+}
+
+// The end of the name at a place.
+pub fn name_end(text: &[u8], from: usize) -> usize
+    requires { ⌜ from ≤ length (now text) ⌝ }
+    ensures { λ r. ⌜ Cut (now (text .entry)) from (run isIdentPart (charsAt (now (text .entry)) from)) r ⌝ }
+{
+    let mut at = from;
+    while at < text.len() {
+        if !is_part(text[at]) {
+            return at;
+        }
+        at += 1;
+    }
+    at
+}
+
+// The name or keyword at a place: its span ends at its last character.
+pub fn name_at(slots: &[u8; 256], keywords: &[[u8; 11]; 60], text: &[u8], at: usize) -> Word
+    requires { ⌜ now slots ≡ slotTable ⌝ }
+    requires { ⌜ now keywords ≡ keywordTable ⌝ }
+    requires { ⌜ at ≤ length (now text) ⌝ }
+    requires { ⌜ next isIdentPart (charsAt (now text) at) ≡ true ⌝ }
+    ensures { λ r. ⌜ WordAt (now (text .entry)) at (parseIdentifierOrKeyword (charsAt (now (text .entry)) at)) (r .kind) (r .length) (r .extent) ⌝ }
+{
+    let to = name_end(text, at);
+    let kind = name_kind(slots, keywords, text, at, to);
+    let n = to - at;
+    let last = n - 1;
+    Word {
+        kind,
+        length: n,
+        extent: last,
+    }
+}
