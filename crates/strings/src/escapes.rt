@@ -6,8 +6,8 @@ ghost use Rattle.characters.specs.Utf8.{charsAt};
 ghost use Rattle.rules.specs.Tables.{ESCAPES, lookup};
 ghost use Rattle.rules.specs.Strings.{hexCode};
 ghost use Rattle.strings.specs.Escapes.{valueOf, digitOf};
-use characters::utf8;
 use super::Value;
+use characters::utf8;
 
 // The value of a hexadecimal digit.
 fn hex_value(b: u8) -> Value

@@ -4,6 +4,7 @@ pub mod units; // units.rt: one unit of a string
 pub mod runs; // runs.rt: the units up to where none stands, written while they are scanned
 pub mod interpolations; // interpolations.rt: `$name` and `${..}`
 pub mod pieces; // pieces.rt: one step inside a string
+
 use cursor::Cursor;
 use records::answers::TokenRecord;
 use spans::Position;

@@ -4,15 +4,15 @@ ghost use Prim.Native.Nat.{_≤_};
 ghost use Rattle.bridge.specs.Bridge.{Within};
 ghost use Rattle.strings.specs.Runs.{Room};
 ghost use Rattle.strings.specs.Pieces.{literalPiece, PieceAt};
+use super::Given;
+use super::Piece;
+use super::Run;
+use super::interpolations;
+use super::runs;
 use bridge::Ahead;
 use cursor::Cursor;
 use records::answers::TokenRecord;
 use spans::Position;
-use super::Piece;
-use super::Given;
-use super::Run;
-use super::interpolations;
-use super::runs;
 use walks::error;
 
 // The literal from `start` to `end` whose text stands in the texts from a place on, up to where the run `r` left off.
@@ -63,11 +63,27 @@ pub fn piece(
     let stop = r.at;
     let Ahead::Char(c, q) = bridge::look(text, stop) else {
         let noted = error::put_unclosed(errors, r.errors, false, 4, stop, stop);
-        return literal(start, stop, used_texts, r, Cursor::Outside(stop), true, noted);
+        return literal(
+            start,
+            stop,
+            used_texts,
+            r,
+            Cursor::Outside(stop),
+            true,
+            noted,
+        );
     };
     if c == 10 {
         let noted = error::put_unclosed(errors, r.errors, false, 5, start, stop);
-        return literal(start, stop, used_texts, r, Cursor::Outside(stop), false, noted);
+        return literal(
+            start,
+            stop,
+            used_texts,
+            r,
+            Cursor::Outside(stop),
+            false,
+            noted,
+        );
     }
     if c == 34 {
         if first {
@@ -79,7 +95,23 @@ pub fn piece(
         return literal(start, q, used_texts, r, Cursor::Outside(q), false, r.errors);
     }
     if r.texts == used_texts {
-        return Piece::Token(interpolations::interpolation(text, stop, start, texts, used_texts, errors, r.errors));
+        return Piece::Token(interpolations::interpolation(
+            text,
+            stop,
+            start,
+            texts,
+            used_texts,
+            errors,
+            r.errors,
+        ));
     }
-    literal(start, stop, used_texts, r, Cursor::InString(start, stop), false, r.errors)
+    literal(
+        start,
+        stop,
+        used_texts,
+        r,
+        Cursor::InString(start, stop),
+        false,
+        r.errors,
+    )
 }

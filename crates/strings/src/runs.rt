@@ -6,12 +6,12 @@ ghost use Rattle.output.specs.Writing.{Put};
 ghost use Rattle.records.specs.Layout.{errorBytes};
 ghost use Rattle.strings.specs.Units.{madeBytes, IsChar, mistakes};
 ghost use Rattle.strings.specs.Runs.{Room, RunAt};
-use spans::Position;
 use super::Found;
 use super::Made;
 use super::Mistake;
 use super::Run;
 use super::units;
+use spans::Position;
 use walks::error;
 
 // Writes what a unit from one place to another makes.

@@ -6,23 +6,24 @@ ghost use Rattle.rules.specs.Strings.{isInterpStart};
 ghost use Rattle.cursor.specs.Strings.{escapeUnit};
 ghost use Rattle.bridge.specs.Bridge.{Within, Reach};
 ghost use Rattle.strings.specs.Units.{backslash, backslashU, unicodeUnit, UnitAt, FoundAt, plainFound};
-use bridge::Ahead;
-use characters::encoding;
-use characters::utf8;
-use spans::Position;
-use super::escapes;
 use super::Found;
 use super::Made;
 use super::Mistake;
 use super::Unit;
 use super::Value;
+use super::escapes;
+use bridge::Ahead;
+use characters::encoding;
+use characters::utf8;
+use spans::Position;
 
 // Whether a dollar sign before the byte opens an interpolation: a brace, or what a name begins with but a second dollar sign.
 fn is_interp_start(b: u8) -> bool
     ensures { λ r. ⌜ r ≡ isInterpStart b ⌝ }
 {
     (b == 123)
-        | ((((65 <= b) & (b <= 90)) | ((97 <= b) & (b <= 122)) | (b == 95) | (b == 36)) & !(b == 36))
+        | ((((65 <= b) & (b <= 90)) | ((97 <= b) & (b <= 122)) | (b == 95) | (b == 36))
+            & !(b == 36))
 }
 
 // Whether a dollar sign before a place opens an interpolation.
