@@ -1,21 +1,73 @@
-//! Compares the proved lexer with Rust. `compare characters` holds its characters against the standard library.
+//! Compares the proved lexer with the original in Rust and with Rust's standard library.
 mod characters;
+mod check;
+mod decode;
 mod host;
+mod lexed;
+mod list;
+mod replay;
+mod scripts;
+
+#[cfg(oracle)]
+mod oracle;
+#[cfg(oracle)]
+mod runs;
+
+include!(concat!(env!("OUT_DIR"), "/original.rs"));
 
 use std::process::ExitCode;
 
+const USAGE: &str = "usage: compare COMMAND
+  characters               characters against Rust's standard library
+  replay                   the stored answers of the original lexer
+with the original lexer's sources (AURA_SRC names their folder when building):
+  table                    document 01's small scripts and corner cases
+  archive DIR              every file below a folder
+  exhaustive DEPTH         every script of up to DEPTH symbols
+  random SEED COUNT        random scripts
+  mutate SEED COUNT FILE.. damaged copies of files, or of a made script
+  large SEED               scripts up to the limit and one byte more
+  store FILE               writes the stored answers";
+
+#[cfg(oracle)]
+fn against_the_original(words: &[&str]) -> Option<bool> {
+    let number = |text: &str| text.parse::<u64>().ok();
+    Some(match words {
+        ["table"] => runs::table(),
+        ["archive", folder] => runs::archive(folder),
+        ["exhaustive", depth] => runs::exhaustive(number(depth)? as u32),
+        ["random", seed, count] => runs::random(number(seed)?, number(count)?),
+        ["mutate", seed, count, files @ ..] => runs::mutate(number(seed)?, number(count)?, files),
+        ["large", seed] => runs::large(number(seed)?),
+        ["store", file] => replay::store(file),
+        _ => return None,
+    })
+}
+
+#[cfg(not(oracle))]
+fn against_the_original(words: &[&str]) -> Option<bool> {
+    let command = words.first()?;
+    let known = ["table", "archive", "exhaustive", "random", "mutate", "large", "store"];
+    known.contains(command).then(|| {
+        println!("{command}: skipped: this program was built without the original lexer's sources (set AURA_SRC to their folder)");
+        true
+    })
+}
+
 fn main() -> ExitCode {
     let words: Vec<String> = std::env::args().skip(1).collect();
-    let passed = match words.iter().map(String::as_str).collect::<Vec<_>>()[..] {
-        ["characters"] => characters::run(),
-        _ => {
-            eprintln!("usage: compare characters");
-            return ExitCode::from(2);
-        }
+    let words: Vec<&str> = words.iter().map(String::as_str).collect();
+    let passed = match words[..] {
+        ["characters"] => Some(characters::run()),
+        ["replay"] => Some(replay::run()),
+        _ => against_the_original(&words),
     };
-    if passed {
-        ExitCode::SUCCESS
-    } else {
-        ExitCode::FAILURE
+    match passed {
+        Some(true) => ExitCode::SUCCESS,
+        Some(false) => ExitCode::FAILURE,
+        None => {
+            eprintln!("{USAGE}");
+            ExitCode::from(2)
+        }
     }
 }

@@ -4,7 +4,7 @@ use mathlib.Core.Bool.{Bool}
 use mathlib.Core.List.{List}
 use lib.ListN.{drop}
 use Rattle.characters.specs.Choice.{if_then_else_}
-use Rattle.characters.specs.Utf8.{firstBad, badClass}
+use Rattle.characters.specs.Utf8.{badClass}
 use Rattle.characters.specs.declared.Checked.{Checked}
 use Rattle.characters.specs.declared.Checked.the-variants.{Valid, BadAt}
 use Rattle.characters.specs.declared.Encoded.{Encoded}

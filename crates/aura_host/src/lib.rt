@@ -13,6 +13,8 @@ use characters::mark;
 use characters::space;
 use characters::utf8;
 
+pub mod calls; // calls.rt: tokenising, measuring, and reading records back
+
 // 0 where the text is UTF-8; else the number of the refusal, and the first byte of the first bad sequence in `place`.
 #[no_mangle]
 pub extern "C" fn aura_first_bad(text: &[u8], place: &mut u64) -> u64

@@ -1,0 +1,115 @@
+//! A stored list of the original's answers, which needs no original at hand. `data/answers.txt` has for each script a line `S` with
+//! the script in hexadecimal, then its T and E lines as the program `tokens` writes them, then `closed` or `open` (by demand 3,
+//! asked of the original with the seconds of `check`).
+use crate::check;
+use crate::lexed::{Lexed, Mistake, Token};
+
+const ANSWERS: &str = include_str!("../data/answers.txt");
+
+fn hex(bytes: &[u8]) -> String {
+    if bytes.is_empty() {
+        return "-".to_string();
+    }
+    bytes.iter().map(|b| format!("{b:02x}")).collect()
+}
+
+fn unhex(text: &str) -> Vec<u8> {
+    if text == "-" {
+        return Vec::new();
+    }
+    (0..text.len()).step_by(2).map(|i| u8::from_str_radix(&text[i..i + 2], 16).expect("hexadecimal")).collect()
+}
+
+fn numbers(words: &[&str]) -> Vec<u64> {
+    words.iter().map(|w| w.parse().expect("a number")).collect()
+}
+
+/// One script and its stored answer.
+struct Stored {
+    script: Vec<u8>,
+    lexed: Lexed,
+    closed: bool,
+}
+
+fn stored(text: &str) -> Vec<Stored> {
+    let mut list: Vec<Stored> = Vec::new();
+    for line in text.lines().filter(|l| !l.is_empty() && !l.starts_with('#')) {
+        let words: Vec<&str> = line.split(' ').collect();
+        match words[0] {
+            "S" => list.push(Stored { script: unhex(words[1]), lexed: Lexed { tokens: Vec::new(), errors: Vec::new() }, closed: true }),
+            "T" => {
+                let n = numbers(&words[1..8]);
+                let token = Token { kind: n[0] as u8, span: n[1..7].try_into().expect("six"), text: unhex(words[8]) };
+                list.last_mut().expect("a script first").lexed.tokens.push(token);
+            }
+            "E" => {
+                let n = numbers(&words[1..]);
+                let mistake = Mistake { kind: n[0] as u8, span: n[1..7].try_into().expect("six"), code: n.get(7).map(|&c| c as u32) };
+                list.last_mut().expect("a script first").lexed.errors.push(mistake);
+            }
+            other => list.last_mut().expect("a script first").closed = other == "closed",
+        }
+    }
+    list
+}
+
+pub fn run() -> bool {
+    let list = stored(ANSWERS);
+    for s in &list {
+        let problem = match check::lex(&s.script) {
+            Err(text) => Some(text),
+            Ok((lexed, used)) if used.closed != s.closed => Some(format!("closed {}: {lexed:?}", used.closed)),
+            Ok((lexed, _)) => lexed.difference(&s.lexed),
+        };
+        if let Some(text) = problem {
+            println!("DIFFERENT: {:?} ({}): {text}", String::from_utf8_lossy(&s.script), hex(&s.script));
+            return false;
+        }
+    }
+    println!("replay: {} stored answers of the original, all equal", list.len());
+    list.len() >= 2000
+}
+
+/// Makes the list from the original: the small scripts, all scripts of up to two symbols, and random ones until every kind that
+/// the original makes, every error and 2,400 scripts are there.
+#[cfg(oracle)]
+pub fn store(file: &str) -> bool {
+    use crate::oracle;
+    use crate::scripts::{self, Numbers};
+    use std::fmt::Write;
+
+    let mut list: Vec<String> = crate::list::SMALL.iter().map(|s| s.to_string()).collect();
+    for depth in 1..=2 {
+        list.extend(scripts::all(depth));
+    }
+    list.push(crate::decode::SPELLINGS.join(" "));
+    list.push("Int Long Short Byte Float Double Boolean Char String Any Nothing Unit unit true false it by malloc spawn".to_string());
+    let mut draw = Numbers::new(2026);
+    while list.len() < 2400 {
+        list.push(scripts::random(&mut draw));
+    }
+    list.push(scripts::import_script(&mut draw, 2000));
+    let mut kinds = [false; 126];
+    let mut faults = [false; 11];
+    let mut text = String::from("# Made by `compare store` from the original lexer: see src/replay.rs.\n");
+    for script in list {
+        let lexed = oracle::lex(&script);
+        let closed = check::joins(script.as_bytes(), true, &lexed, |s| Ok(oracle::lex(std::str::from_utf8(s).expect("UTF-8")))).is_ok();
+        writeln!(text, "S {}", hex(script.as_bytes())).expect("a string");
+        for t in &lexed.tokens {
+            kinds[t.kind as usize] = true;
+            let [a, b, c, d, e, f] = t.span;
+            writeln!(text, "T {} {a} {b} {c} {d} {e} {f} {}", t.kind, hex(&t.text)).expect("a string");
+        }
+        for m in &lexed.errors {
+            faults[m.kind as usize] = true;
+            let [a, b, c, d, e, f] = m.span;
+            let code = m.code.map(|c| format!(" {c}")).unwrap_or_default();
+            writeln!(text, "E {} {a} {b} {c} {d} {e} {f}{code}", m.kind).expect("a string");
+        }
+        text += if closed { "closed\n" } else { "open\n" };
+    }
+    let missing: Vec<usize> = (0..126).filter(|&k| !kinds[k]).collect();
+    println!("kinds that no script makes: {missing:?}; errors: {:?}", (1..11).filter(|&k| !faults[k]).collect::<Vec<_>>());
+    std::fs::write(file, text).is_ok()
+}
