@@ -91,6 +91,18 @@ pub fn lex(script: &[u8]) -> Result<(Lexed, Used), String> {
     Ok((lexed, used))
 }
 
+/// The three buffers of an accepted script, as far as they are used.
+pub fn buffers(script: &[u8]) -> Result<[Vec<u8>; 3], String> {
+    let used = host::measure(script).map_err(|refusal| format!("refused {refusal:?}"))?;
+    let exact = run(script, [used.tokens, used.texts, used.errors]);
+    exact.lists(script, used)?;
+    Ok([
+        exact.tokens.bytes[..used.tokens].to_vec(),
+        exact.texts.bytes[..used.texts].to_vec(),
+        exact.errors.bytes[..used.errors].to_vec(),
+    ])
+}
+
 /// The proved readers over the records of a run.
 fn read_back(script: &[u8], run: &Run, used: Used, lexed: &Lexed) -> Result<(), String> {
     let tokens = &run.tokens.bytes[..used.tokens];

@@ -5,6 +5,7 @@ mod decode;
 mod host;
 mod lexed;
 mod list;
+mod records;
 mod replay;
 mod scripts;
 
@@ -20,6 +21,7 @@ use std::process::ExitCode;
 const USAGE: &str = "usage: compare COMMAND
   characters               characters against Rust's standard library
   replay                   the stored answers of the original lexer
+  records                  the readers over good, cut and damaged buffers
 with the original lexer's sources (AURA_SRC names their folder when building):
   table                    document 01's small scripts and corner cases
   archive DIR              every file below a folder
@@ -60,6 +62,7 @@ fn main() -> ExitCode {
     let passed = match words[..] {
         ["characters"] => Some(characters::run()),
         ["replay"] => Some(replay::run()),
+        ["records"] => Some(records::run()),
         _ => against_the_original(&words),
     };
     match passed {
