@@ -19,6 +19,8 @@ mod calls {
             answer: *mut [u64; 5],
         ) -> u64;
         pub fn aura_next_token(tokens: *const u8, length: usize, place: usize, answer: *mut [u64; 10]) -> u64;
+        pub fn aura_consume(tokens: *const u8, length: usize, place: usize, kind: u8, answer: *mut [u64; 11]) -> u64;
+        pub fn aura_match_kind(tokens: *const u8, length: usize, place: usize, kind: u8, answer: *mut [u64; 2]) -> u64;
         pub fn aura_next_error(errors: *const u8, length: usize, place: usize, answer: *mut [u64; 9]) -> u64;
         pub fn aura_text_check(
             script: *const u8,
@@ -116,6 +118,24 @@ pub fn tokenize(script: &[u8], tokens: &mut [u8], texts: &mut [u8], errors: &mut
 pub fn next_token(tokens: &[u8], place: usize) -> Result<[u64; 10], Refusal> {
     let mut answer = [KEPT; 10];
     match unsafe { calls::aura_next_token(tokens.as_ptr(), tokens.len(), place, &mut answer) } {
+        0 => Ok(answer),
+        number => Err(Refusal { number, figure: answer[0] }),
+    }
+}
+
+/// The next token's values, and 1 where the kind is the one asked for.
+pub fn consume(tokens: &[u8], place: usize, kind: u8) -> Result<[u64; 11], Refusal> {
+    let mut answer = [KEPT; 11];
+    match unsafe { calls::aura_consume(tokens.as_ptr(), tokens.len(), place, kind, &mut answer) } {
+        0 => Ok(answer),
+        number => Err(Refusal { number, figure: answer[0] }),
+    }
+}
+
+/// The next place, and 1 where the kind is the one asked for.
+pub fn match_kind(tokens: &[u8], place: usize, kind: u8) -> Result<[u64; 2], Refusal> {
+    let mut answer = [KEPT; 2];
+    match unsafe { calls::aura_match_kind(tokens.as_ptr(), tokens.len(), place, kind, &mut answer) } {
         0 => Ok(answer),
         number => Err(Refusal { number, figure: answer[0] }),
     }

@@ -30,6 +30,23 @@ fn places(size: usize) -> impl Iterator<Item = usize> {
     (0..size + 40).chain([usize::MAX - 40, usize::MAX])
 }
 
+/// Consume and match of a kind at a place, by what next has to answer there.
+fn same_kind(tokens: &[u8], at: usize, kind: u8, next: Result<[u64; 10], Refusal>) -> Result<(), String> {
+    let next = if kind > 125 { Err(Refusal { number: 6, figure: u64::from(kind) }) } else { next };
+    let consumed = next.map(|r| {
+        let mut values = [0; 11];
+        values[..10].copy_from_slice(&r);
+        values[10] = u64::from(r[1] == u64::from(kind));
+        values
+    });
+    let matched = consumed.map(|r| [if r[10] == 1 { r[0] } else { at as u64 }, r[10]]);
+    let ours = (host::consume(tokens, at, kind), host::match_kind(tokens, at, kind));
+    if ours != (consumed, matched) {
+        return Err(format!("kind {kind} at {at} of {tokens:02X?}: proved {ours:?}, expected {:?}", (consumed, matched)));
+    }
+    Ok(())
+}
+
 fn same_tokens(script: &[u8], texts: &[u8], tokens: &[u8]) -> Result<u64, String> {
     let mut done = 0;
     for at in places(tokens.len()) {
@@ -45,6 +62,10 @@ fn same_tokens(script: &[u8], texts: &[u8], tokens: &[u8]) -> Result<u64, String
         };
         if ours != theirs {
             return Err(format!("next token at {at} of {tokens:02X?}: proved {ours:?}, decoded {theirs:?}"));
+        }
+        for kind in [0, 5, 39, 76, 124, 125, 126, 255, tokens.get(at).copied().unwrap_or(0)] {
+            same_kind(tokens, at, kind, theirs)?;
+            done += 2;
         }
         let ours = host::text_check(script, texts, tokens, at);
         let theirs = expected_check(script, texts, tokens, at);

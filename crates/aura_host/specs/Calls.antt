@@ -2,7 +2,8 @@
 -- refusal sets the first slot to its figure, and the other slots keep.
 use Prim.Native.Nat.{ℕ}
 use mathlib.Core.Path.{_≡_}
-use mathlib.Core.List.{List, [], _∷_}
+use mathlib.Core.Bool.{Bool}
+use mathlib.Core.List.{List, [], _∷_, _++_}
 use lib.ListN.{length, set}
 use Rattle.rules.specs.Script.{scriptTokens, scriptErrors}
 use Rattle.records.specs.Layout.{tokenBytes, textBytes, errorBytes}
@@ -53,3 +54,11 @@ pub record HostTokenized (s tokens texts errors slots : List ℕ) (r : ℕ) (tok
       texts′ ≡ bufferAfter (tokenizeAnswer s (length tokens) (length texts) (length errors)) texts (textBytes (scriptTokens s))
   pub errors-after :
       errors′ ≡ bufferAfter (tokenizeAnswer s (length tokens) (length texts) (length errors)) errors (errorBytes (scriptErrors s))
+
+-- Consuming: the next token's values, and 1 where the kind fits, else 0.
+unfoldable pub consumedValues : ℕ → TokenRecord × Bool → List ℕ
+consumedValues place x = tokenValues place (x .0) ++ (truth (x .1) ∷ [])
+
+-- Matching: the next place, and 1 where the kind fits, else 0.
+unfoldable pub matchedValues : ℕ → Bool → List ℕ
+matchedValues place fits = place ∷ truth fits ∷ []

@@ -1,12 +1,14 @@
 // Tokenising, measuring, and reading records back.
 ghost use mathlib.Core.Path.{_≡_};
 ghost use Rattle.records.specs.Answers.{Turn};
-ghost use Rattle.records.specs.Reading.{nextAt, nextErrorAt};
+ghost use Rattle.records.specs.Reading.{nextAt, consumeAt, matchAt, nextErrorAt};
 ghost use Rattle.records.specs.Texts.{textCheckAt};
 ghost use Rattle.lexer.specs.Tokenize.{ofAnswer, measureAnswer};
 ghost use Rattle.aura_host.specs.Characters.{truth};
-ghost use Rattle.aura_host.specs.Calls.{numberOf, slotsAfter, usedValues, tokenValues, errorValues, checkAfter, HostTokenized};
+ghost use Rattle.aura_host.specs.Calls.{numberOf, slotsAfter, usedValues, tokenValues, errorValues, consumedValues, matchedValues, checkAfter, HostTokenized};
 use lexer::Answer;
+use records::answers::Consumed;
+use records::answers::Matched;
 use records::answers::Next;
 use records::answers::NextError;
 use records::answers::TextCheck;
@@ -144,6 +146,64 @@ pub extern "C" fn aura_text_check<'a>(
     match c {
         TextCheck::Inside => 0,
         TextCheck::Refused(x) => {
+            answer[0] = x.figure;
+            x.number
+        }
+    }
+}
+
+// The token record at a place, and whether it is of the kind asked for. It moves on either way.
+#[no_mangle]
+pub extern "C" fn aura_consume(tokens: &[u8], place: usize, kind: u8, answer: &mut [u64; 11]) -> u64
+    ensures { λ r. ⌜ r ≡ numberOf (consumeAt (now (tokens .entry)) place kind .answer) ⌝ }
+    ensures { λ _. ⌜ now (answer .exit) ≡ slotsAfter (consumedValues (consumeAt (now (tokens .entry)) place kind .place)) (consumeAt (now (tokens .entry)) place kind .answer) (now (answer .entry)) ⌝ }
+{
+    let n = records::read::consume(tokens, place, kind);
+    match n {
+        Consumed::Got(r, fits, at) => {
+            let s = r.span;
+            let same = truth_of(fits);
+            *answer = [
+                at as u64,
+                r.kind as u64,
+                s.start as u64,
+                s.end as u64,
+                s.start_line as u64,
+                s.start_col as u64,
+                s.end_line as u64,
+                s.end_col as u64,
+                r.offset as u64,
+                r.length as u64,
+                same,
+            ];
+            0
+        }
+        Consumed::Refused(x, _) => {
+            answer[0] = x.figure;
+            x.number
+        }
+    }
+}
+
+// Whether the token record at a place is of the kind asked for. It moves on only then.
+#[no_mangle]
+pub extern "C" fn aura_match_kind(
+    tokens: &[u8],
+    place: usize,
+    kind: u8,
+    answer: &mut [u64; 2],
+) -> u64
+    ensures { λ r. ⌜ r ≡ numberOf (matchAt (now (tokens .entry)) place kind .answer) ⌝ }
+    ensures { λ _. ⌜ now (answer .exit) ≡ slotsAfter (matchedValues (matchAt (now (tokens .entry)) place kind .place)) (matchAt (now (tokens .entry)) place kind .answer) (now (answer .entry)) ⌝ }
+{
+    let n = records::read::match_kind(tokens, place, kind);
+    match n {
+        Matched::Got(fits, at) => {
+            let same = truth_of(fits);
+            *answer = [at as u64, same];
+            0
+        }
+        Matched::Refused(x, _) => {
             answer[0] = x.figure;
             x.number
         }

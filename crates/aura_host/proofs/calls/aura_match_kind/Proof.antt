@@ -1,0 +1,42 @@
+-- `calls::aura_match_kind` meets its contract.
+use mathlib.Core.Path.{refl, sym, ap, _∙_}
+use Rattle.aura_host.specs.Calls.{numberOf, slotsAfter, matchedValues}
+use Rattle.records.specs.Answers.{ofMatched}
+use borrow.Author.Needs.{needs}
+use Rattle.aura_host.proofs.calls.aura_match_kind.Statement.{statement}
+use Rattle.aura_host.proofs.calls.aura_match_kind.Tie as tie
+
+match-kind-requires : tie.Need-match-kind-requires
+match-kind-requires c κs = search needs
+
+enum-known-n : tie.Need-enum-known-n
+enum-known-n c = search needs
+
+truth-of-requires : tie.Need-truth-of-requires
+truth-of-requires c κs = search needs
+
+enum-known-n-2 : tie.Need-enum-known-n-2
+enum-known-n-2 c = search needs
+
+element-write-answer : tie.Need-element-write-answer
+element-write-answer c = search needs
+
+returns : tie.Need-returns
+unfolding numberOf slotsAfter matchedValues
+returns c = rw (sym (c .before .before .before .before .before .match-kind .ensures) ∙ ap ofMatched (c .before .before .before .n .given .1)) (refl, rw (c .before .truth-of .ensures))
+
+returns-2 : tie.Need-returns-2
+unfolding numberOf slotsAfter
+returns-2 c = rw (sym (c .before .before .before .match-kind .ensures) ∙ ap ofMatched (c .before .n2 .given .1)) (refl, refl)
+
+pub aura-match-kind-spec : {M : Type 1} → statement M
+aura-match-kind-spec =
+    tie.close
+    (tie.spec
+    match-kind-requires
+    enum-known-n
+    truth-of-requires
+    enum-known-n-2
+    element-write-answer
+    returns
+    returns-2)
