@@ -1,23 +1,21 @@
 -- Laws of hexadecimal digits: one, and several one after another. Assumes nothing.
 use mathlib.Core.Path.{_≡_, refl, sym, _∙_, ap}
-use mathlib.Core.Bool.{Bool, true, false, _||_, false≢true, true≢false}
+use mathlib.Core.Bool.{Bool, true, false, _||_, false≢true}
 use mathlib.Core.List.{List, [], _∷_, _++_}
 use mathlib.Core.Option.{Option, none, some}
-use Prim.Native.Nat.{ℕ, zero, suc, _+_, _-_, _*_, _≤_, _<_}
+use Prim.Native.Nat.{ℕ, zero, suc, _+_, _-_, _*_, _<_}
 use lib.ListN.{length, take, getD}
 use native.Mathlib.Omega.{arith}
 use native.Mathlib.Nat.{add-zero}
-use native.Mathlib.Numerals.{add-one}
 use Rattle.characters.specs.Choice.{if_then_else_, _is_, within}
 use Rattle.characters.specs.Utf8.{charsAt}
-use Rattle.characters.proofs.Choice.{if-all, and-both, or-either, within-bounds}
-use Rattle.rules.specs.Text.{Char, Text, isDigit, isHexDigit, hexValue}
+use Rattle.characters.proofs.Choice.{within-bounds}
+use Rattle.rules.specs.Text.{Text, isDigit, isHexDigit, hexValue}
 use Rattle.rules.specs.Scan.{next}
 use Rattle.rules.specs.Strings.{hexCode}
 use Rattle.bridge.specs.Bridge.{Low, Flat}
 use Rattle.bridge.proofs.Tests.{low-or, low-within, low-weak}
 use Rattle.bridge.proofs.Bytes.{byte-cons, byte-next, next-cons}
-use Rattle.strings.specs.declared.Value.{Value}
 use Rattle.strings.specs.declared.Value.the-variants as value
 use Rattle.strings.specs.Escapes.{valueOf, digitOf}
 

@@ -1,9 +1,9 @@
 -- Laws of interpolations: where one ends, and the bytes of its text. Assumes nothing.
 use mathlib.Core.Path.{_≡_, refl, sym, _∙_, ap, subst}
-use mathlib.Core.Bool.{Bool, true, false, not, _&&_}
-use mathlib.Core.List.{List, [], _∷_, _++_, append-assoc, append-nil}
-use Prim.Native.Nat.{ℕ, suc, _+_, _-_, _≤_, _<_}
-use lib.ListN.{length, drop, length-append}
+use mathlib.Core.Bool.{Bool, true, false, not}
+use mathlib.Core.List.{List, [], _∷_, _++_, append-nil}
+use Prim.Native.Nat.{ℕ, suc, _+_, _-_, _≤_}
+use lib.ListN.{length, drop}
 use lib.Seq.{slice}
 use native.Mathlib.Omega.{arith}
 use Rattle.characters.specs.Choice.{if_then_else_}
@@ -13,7 +13,7 @@ use Rattle.characters.proofs.Texts.{encode-append, encode-length, bytes-append}
 use Rattle.spans.specs.declared.Position.{Position}
 use Rattle.spans.specs.declared.Span.{Span}
 use Rattle.rules.specs.Text.{Text, text, isIdentPart}
-use Rattle.rules.specs.Scan.{next, startsWith, Part, run, Upto, upTo, closing}
+use Rattle.rules.specs.Scan.{next, startsWith, run, Upto, upTo, closing}
 use Rattle.rules.specs.Tables.{StringInterpStart, UnterminatedInterpolation}
 use Rattle.rules.specs.Tokens.{TokenizeError}
 use Rattle.rules.specs.Lexer.{span}
@@ -22,10 +22,10 @@ use Rattle.cursor.specs.Strings.{Interpolation, braces, named, interpolationOf}
 use Rattle.cursor.specs.Cursor.{errorAt, interpolationErrors}
 use Rattle.bridge.specs.Bridge.{Within, Reach, onward, exactly, Cut}
 use Rattle.bridge.proofs.Tests.{low-is}
-use Rattle.bridge.proofs.Bytes.{next-cons, starts-one, starts-at}
+use Rattle.bridge.proofs.Bytes.{starts-one, starts-at}
 use Rattle.bridge.proofs.Reaches.{reach-join, one-on, onward-suc, flat-reach, cut-reach}
 use Rattle.output.specs.Writing.{Put}
-use Rattle.output.proofs.Buffers.{put-none, put-then}
+use Rattle.output.proofs.Buffers.{put-then}
 use Rattle.walks.specs.declared.Closing.{Closing}
 use Rattle.records.specs.Layout.{errorBytes}
 use Rattle.walks.specs.Errors.{unclosed}

@@ -1,15 +1,15 @@
 -- Laws of the letters of escapes. Assumes nothing.
-use mathlib.Core.Path.{_≡_, refl, sym, _∙_, ap}
-use mathlib.Core.Bool.{Bool, true, false, _||_, false≢true, true≢false}
+use mathlib.Core.Path.{_≡_, refl, _∙_}
+use mathlib.Core.Bool.{true, false, false≢true}
 use mathlib.Core.List.{List, [], _∷_, map}
-use mathlib.Core.Logic.{_⊎_, inl, inr, ⊎-elim}
-use mathlib.Core.Option.{Option, none, some}
+use mathlib.Core.Logic.{⊎-elim}
+use mathlib.Core.Option.{none}
 use Prim.Native.Nat.{ℕ}
 use types.Run.{OneOf}
 use borrow.Author.Tests.{eqb-true, ne-eqb}
-use Rattle.characters.specs.Choice.{if_then_else_, _is_}
+use Rattle.characters.specs.Choice.{_is_}
 use Rattle.characters.proofs.Choice.{and-both, or-either}
-use Rattle.rules.specs.Text.{Char, oneOf}
+use Rattle.rules.specs.Text.{oneOf}
 use Rattle.rules.specs.Tables.{lookup}
 use Rattle.bridge.proofs.Tests.{allPass}
 

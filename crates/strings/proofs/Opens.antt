@@ -1,11 +1,9 @@
 -- Laws of the characters that open an interpolation behind a dollar sign. Assumes nothing.
-use mathlib.Core.Path.{_≡_}
 use mathlib.Core.Bool.{_||_, _&&_, not}
-use Prim.Native.Nat.{ℕ}
 use native.Mathlib.Omega.{arith}
 use Rattle.characters.specs.Choice.{_is_, within}
 use Rattle.characters.proofs.Choice.{and-both}
-use Rattle.rules.specs.Text.{Char, isLetter, isIdentStart}
+use Rattle.rules.specs.Text.{isLetter, isIdentStart}
 use Rattle.rules.specs.Strings.{isInterpStart}
 use Rattle.bridge.specs.Bridge.{Low, exactly}
 use Rattle.bridge.proofs.Tests.{low-or, low-within, low-is}

@@ -2,7 +2,7 @@
 use mathlib.Core.Path.{_≡_, refl, sym, _∙_, ap, subst}
 use mathlib.Core.Bool.{Bool, true, false, not, _&&_, false≢true}
 use mathlib.Core.List.{List, [], _∷_, _++_, append-cancel-left, append-nil}
-use Prim.Native.Nat.{ℕ, zero, suc, _+_, _*_, _-_, _≤_, _<_}
+use Prim.Native.Nat.{ℕ, zero, suc, _+_, _-_, _≤_, _<_}
 use lib.ListN.{length, take, drop, length-append}
 use lib.Seq.{take-append-seam}
 use native.Mathlib.Omega.{arith}
@@ -12,15 +12,15 @@ use Rattle.characters.proofs.Texts.{encode-length}
 use Rattle.characters.proofs.Widths.{width-bounds}
 use Rattle.spans.specs.declared.Position.{Position}
 use Rattle.spans.specs.declared.Span.{Span}
-use Rattle.rules.specs.Text.{Text, ch, LF, isEmpty}
+use Rattle.rules.specs.Text.{Text, LF, isEmpty}
 use Rattle.rules.specs.Scan.{next}
 use Rattle.rules.specs.Strings.{isInterpStart}
-use Rattle.rules.specs.Tables.{StringLiteral, UnterminatedString, LineFeedInString, StringInterpStart}
+use Rattle.rules.specs.Tables.{StringLiteral, StringInterpStart, UnterminatedString, LineFeedInString}
 use Rattle.rules.specs.Tokens.{Token, TokenizeError}
 use Rattle.rules.specs.Lexer.{advance, advances, span, Lexed}
 use Rattle.cursor.specs.declared.Cursor.{Cursor}
 use Rattle.cursor.specs.declared.Cursor.the-variants.{Outside, InString}
-use Rattle.cursor.specs.Strings.{Interpolation, unitOf, stands, unitsMade, unitsErrors, unitsAhead, interpolationOf}
+use Rattle.cursor.specs.Strings.{Interpolation, unitOf, stands, unitsMade, unitsErrors, unitsAhead}
 use Rattle.cursor.specs.Cursor.{andThen, held, left, position, literal, interpolation, errorAt, interpolationErrors}
 use Rattle.cursor.proofs.Units.{Whole, unit-first, unit-splits, stands-cons, whole-none, whole-unit, whole-join, whole-all}
 use Rattle.cursor.proofs.Pieces.{stops-dollar, first-gives, piece-end, piece-feed, piece-quote, string-over, piece-dollar, piece-interp}
@@ -40,7 +40,7 @@ use Rattle.strings.specs.declared.Piece.{Piece}
 use Rattle.strings.specs.declared.Piece.the-variants as piece
 use Rattle.strings.specs.Runs.{runChars, runMade, runErrors, RunAt}
 use Rattle.strings.specs.Interpolations.{interpolationAt, InterpolationAt}
-use Rattle.strings.specs.Pieces.{literalPiece, tokenOf, credit, Gives, Over, PieceAt}
+use Rattle.strings.specs.Pieces.{literalPiece, tokenOf, credit, Over, PieceAt}
 use Rattle.strings.proofs.RunLaws.{error-few}
 use Rattle.strings.proofs.InterpLaws.{interp-first, text-size, interp-few}
 

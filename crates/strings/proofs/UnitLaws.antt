@@ -1,32 +1,30 @@
 -- Laws of one unit of a string. Assumes nothing.
 use mathlib.Core.Path.{_≡_, refl, sym, _∙_, ap, subst}
-use mathlib.Core.Bool.{Bool, true, false, _&&_, not, true≢false, false≢true}
+use mathlib.Core.Bool.{Bool, true, false, not, true≢false, false≢true}
 use mathlib.Core.List.{List, [], _∷_, _++_, map, append-nil}
 use mathlib.Core.Option.{Option, none, some}
-use Prim.Native.Nat.{ℕ, suc, _+_, _≤_, _<_}
+use Prim.Native.Nat.{ℕ, _+_, _≤_, _<_}
 use lib.Dec.{leb}
 use lib.ListN.{length, take}
 use lib.Seq.{slice}
 use native.Mathlib.Omega.{arith}
-use borrow.Author.Tests.{eq-eqb, ne-eqb, leb-true, le-leb}
+use borrow.Author.Tests.{ne-eqb, leb-true, le-leb}
 use Rattle.characters.specs.Choice.{if_then_else_, _is_, within}
 use Rattle.characters.specs.Utf8.{charsAt, isScalar, width, bytes, encode, encodeChar}
-use Rattle.characters.proofs.Choice.{and-both, within-yes}
+use Rattle.characters.proofs.Choice.{and-both}
 use Rattle.characters.proofs.Texts.{encode-length}
 use Rattle.spans.specs.declared.Position.{Position}
-use Rattle.rules.specs.Text.{Char, Text, text}
+use Rattle.rules.specs.Text.{Char, Text}
 use Rattle.rules.specs.Scan.{next}
 use Rattle.rules.specs.Tables.{ESCAPES, lookup, BadUnicodeEscape, BadEscape}
-use Rattle.rules.specs.Tokens.{TokenizeError}
-use Rattle.rules.specs.Segment.{Fault, fault}
+use Rattle.rules.specs.Segment.{fault}
 use Rattle.rules.specs.Strings.{hexCode, charOf, unicodeEscape, plainEscape, otherEscape, escape, isInterpStart}
-use Rattle.rules.specs.Lexer.{advance, advances, span, errorsOf}
+use Rattle.rules.specs.Lexer.{advances, span, errorsOf}
 use Rattle.cursor.specs.Strings.{Unit as StringUnit, plainUnit, escapeUnit, unitOf, stands, unitErrors}
-use Rattle.bridge.specs.Bridge.{Within, Reach, onward, Flat}
+use Rattle.bridge.specs.Bridge.{Within, Reach, onward}
 use Rattle.bridge.proofs.Tests.{allPass}
 use Rattle.bridge.proofs.Reaches.{reach-join, advance-flat, word-reach}
 use Rattle.walks.proofs.Enclosed.{reach-offset, reach-slice}
-use Rattle.strings.specs.declared.Made.{Made}
 use Rattle.strings.specs.declared.Made.the-variants as made
 use Rattle.strings.specs.declared.Mistake.{Mistake}
 use Rattle.strings.specs.declared.Mistake.the-variants as mistake
@@ -73,7 +71,7 @@ one-error : (p : Position) (t m : Text) (k : ℕ) (o : Option Char)
 unfolding unitErrors errorsOf advances
 one-error p t m k o = rw (advance-flat p 92 (omega arith) (omega arith))
 
-no-error : (p : Position) (t m : Text) → unitErrors p (record { chars = t; made = m; faults = [] }) ≡ []
+pub no-error : (p : Position) (t m : Text) → unitErrors p (record { chars = t; made = m; faults = [] }) ≡ []
 unfolding unitErrors errorsOf
 no-error p t m = refl
 
@@ -175,7 +173,7 @@ pub escape-small : (e v : ℕ) → lookup e ESCAPES ≡ some v → v ≤ 0x7F
 unfolding ESCAPES allPass
 escape-small e v k = leb-true v 0x7F (lookup-value (λ x. leb x 0x7F) ESCAPES e v refl k)
 
-width-one : (v : ℕ) → v ≤ 0x7F → width v ≡ 1
+pub width-one : (v : ℕ) → v ≤ 0x7F → width v ≡ 1
 unfolding width
 width-one v h = rw (le-leb v 0x7F h)
 

@@ -1,6 +1,6 @@
 -- What the functions of one unit promise.
 use mathlib.Core.Path.{_≡_}
-use mathlib.Core.Bool.{Bool, true, false}
+use mathlib.Core.Bool.{true, false}
 use mathlib.Core.List.{List, [], _∷_, _++_}
 use mathlib.Core.Option.{none, some}
 use Prim.Native.Nat.{ℕ, _+_, _≤_, _<_}
@@ -8,6 +8,7 @@ use lib.ListN.{length, take}
 use lib.Seq.{slice}
 use Rattle.characters.specs.Utf8.{charsAt, encode, encodeChar}
 use Rattle.spans.specs.declared.Position.{Position}
+use Rattle.spans.specs.declared.Span.{Span}
 use Rattle.rules.specs.Text.{Text, text}
 use Rattle.rules.specs.Tokens.{TokenizeError}
 use Rattle.rules.specs.Tables.{BadUnicodeEscape, BadEscape}
@@ -47,13 +48,15 @@ IsChar made.Nothing = Unit {0}
 IsChar made.Own = Unit {0}
 IsChar (made.Char c) = c ≤ 0x10FFFF
 
+-- The span of an error that stands behind the backslash at `p`.
+abbrev pub spanBehind : Position → Span
+spanBehind p = span (onward p 1) (onward p 1)
+
 -- The errors of a unit at the position `p`.
 abbrev pub mistakes : Position → Mistake → List TokenizeError
 mistakes p mistake.None = []
-mistakes p mistake.BadUnicode =
-    record { kind = BadUnicodeEscape; span = span (onward p 1) (onward p 1); char = none } ∷ []
-mistakes p (mistake.BadEscape e) =
-    record { kind = BadEscape; span = span (onward p 1) (onward p 1); char = some e } ∷ []
+mistakes p mistake.BadUnicode = record { kind = BadUnicodeEscape; span = spanBehind p; char = none } ∷ []
+mistakes p (mistake.BadEscape e) = record { kind = BadEscape; span = spanBehind p; char = some e } ∷ []
 
 -- The unit `u` of the rules, at the position `p`.
 pub record UnitAt (s : List ℕ) (p : Position) (u : StringUnit) (r : code.Unit) : Type 0 where

@@ -63,39 +63,26 @@ pub fn piece(
     let stop = r.at;
     let Ahead::Char(c, q) = bridge::look(text, stop) else {
         let noted = error::put_unclosed(errors, r.errors, false, 4, stop, stop);
-        return literal(
-            start,
-            stop,
-            used_texts,
-            r,
-            Cursor::Outside(stop),
-            true,
-            noted,
-        );
+        let outside = Cursor::Outside(stop);
+        return literal(start, stop, used_texts, r, outside, true, noted);
     };
     if c == 10 {
         let noted = error::put_unclosed(errors, r.errors, false, 5, start, stop);
-        return literal(
-            start,
-            stop,
-            used_texts,
-            r,
-            Cursor::Outside(stop),
-            false,
-            noted,
-        );
+        let next = Cursor::Outside(stop);
+        return literal(start, stop, used_texts, r, next, false, noted);
     }
     if c == 34 {
+        let next = Cursor::Outside(q);
         if first {
-            return literal(start, q, used_texts, r, Cursor::Outside(q), false, r.errors);
+            return literal(start, q, used_texts, r, next, false, r.errors);
         }
         if r.texts == used_texts {
             return Piece::Over(q, r.errors);
         }
-        return literal(start, q, used_texts, r, Cursor::Outside(q), false, r.errors);
+        return literal(start, q, used_texts, r, next, false, r.errors);
     }
     if r.texts == used_texts {
-        return Piece::Token(interpolations::interpolation(
+        let g = interpolations::interpolation(
             text,
             stop,
             start,
@@ -103,15 +90,9 @@ pub fn piece(
             used_texts,
             errors,
             r.errors,
-        ));
+        );
+        return Piece::Token(g);
     }
-    literal(
-        start,
-        stop,
-        used_texts,
-        r,
-        Cursor::InString(start, stop),
-        false,
-        r.errors,
-    )
+    let next = Cursor::InString(start, stop);
+    literal(start, stop, used_texts, r, next, false, r.errors)
 }

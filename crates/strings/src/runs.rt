@@ -1,11 +1,15 @@
 // The units of a string up to where none stands, written while they are scanned.
+ghost use mathlib.Core.Path.{_≡_};
 ghost use Prim.Native.Nat.{_≤_};
 ghost use lib.ListN.{length};
-ghost use Rattle.bridge.specs.Bridge.{Within, Fits};
+ghost use Rattle.characters.specs.Utf8.{charsAt};
+ghost use Rattle.rules.specs.Scan.{run};
+ghost use Rattle.records.specs.Records.{errorRecord};
+ghost use Rattle.bridge.specs.Bridge.{Within, Fits, Cut};
 ghost use Rattle.output.specs.Writing.{Put};
 ghost use Rattle.records.specs.Layout.{errorBytes};
-ghost use Rattle.strings.specs.Units.{madeBytes, IsChar, mistakes};
-ghost use Rattle.strings.specs.Runs.{Room, RunAt};
+ghost use Rattle.strings.specs.Units.{madeBytes, IsChar, spanBehind, mistakes};
+ghost use Rattle.strings.specs.Runs.{Room, isPlain, RunAt};
 use super::Found;
 use super::Made;
 use super::Mistake;
@@ -37,22 +41,53 @@ pub fn put_made(
     }
 }
 
+// Writes the error of this kind that stands behind the backslash at p.
+fn put_behind(p: Position, kind: u8, code: u32, errors: &mut [u8], at: usize) -> usize
+    requires { ⌜ Fits p 1 ⌝ }
+    requires { ⌜ at ≤ 1152921504606846976 ⌝ }
+    ensures { λ r. ⌜ Put (now (errors .entry)) (now (errors .exit)) at (errorRecord kind (spanBehind p) code) r ⌝ }
+{
+    let q = bridge::along(p, 1);
+    let s = error::between(q, q);
+    output::put_error(errors, at, kind, s, code)
+}
+
 // Writes the error of a unit at p.
 pub fn put_mistake(p: Position, mistake: Mistake, errors: &mut [u8], at: usize) -> usize
     requires { ⌜ Fits p 1 ⌝ }
     requires { ⌜ at ≤ 1152921504606846976 ⌝ }
     ensures { λ r. ⌜ Put (now (errors .entry)) (now (errors .exit)) at (errorBytes (mistakes p mistake)) r ⌝ }
 {
-    let q = bridge::along(p, 1);
-    let s = error::between(q, q);
     match mistake {
         Mistake::None => at,
-        Mistake::BadUnicode => output::put_error(errors, at, 6, s, 0),
-        Mistake::BadEscape(e) => output::put_error(errors, at, 7, s, e),
+        Mistake::BadUnicode => put_behind(p, 6, 0, errors, at),
+        Mistake::BadEscape(e) => put_behind(p, 7, e, errors, at),
     }
 }
 
-// The units from p to where none stands.
+// Whether a byte is a character that stands for itself in a string.
+fn is_plain(b: u8) -> bool
+    ensures { λ r. ⌜ r ≡ isPlain b ⌝ }
+{
+    (11 <= b) & (b <= 127) & !(b == 34) & !(b == 36) & !(b == 92)
+}
+
+// The end of such characters at a place.
+pub fn plain_end(text: &[u8], from: usize) -> usize
+    requires { ⌜ from ≤ length (now text) ⌝ }
+    ensures { λ r. ⌜ Cut (now (text .entry)) from (run isPlain (charsAt (now (text .entry)) from)) r ⌝ }
+{
+    let mut at = from;
+    while at < text.len() {
+        if !is_plain(text[at]) {
+            return at;
+        }
+        at += 1;
+    }
+    at
+}
+
+// The units from p to where none stands. Characters that stand for themselves are passed and written together.
 pub fn run_units(
     text: &[u8],
     p: Position,
@@ -69,18 +104,22 @@ pub fn run_units(
     let mut made = used_texts;
     let mut noted = used_errors;
     loop {
-        let Found::Some(u) = units::unit_at(text, at) else {
+        let from = at.offset;
+        let to = plain_end(text, from);
+        let q = bridge::along(at, to - from);
+        let part = output::put_part(text, from, to, texts, made);
+        let Found::Some(u) = units::unit_at(text, q) else {
             return Run {
-                at,
-                texts: made,
+                at: q,
+                texts: part,
                 errors: noted,
             };
         };
         let next = u.next;
         let makes = u.made;
         let mistake = u.mistake;
-        made = put_made(text, at.offset, next.offset, makes, texts, made);
-        noted = put_mistake(at, mistake, errors, noted);
+        made = put_made(text, q.offset, next.offset, makes, texts, part);
+        noted = put_mistake(q, mistake, errors, noted);
         at = next;
     }
 }

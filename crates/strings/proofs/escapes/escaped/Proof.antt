@@ -1,72 +1,56 @@
-use mathlib.Core.Path.{_≡_, refl, sym, _∙_, ap, subst}
+use mathlib.Core.Path.{refl}
 use mathlib.Core.List.{[], _∷_}
 use Rattle.rules.specs.Text.{oneOf}
 use Rattle.rules.specs.Tables.{ESCAPES, lookup}
 use Rattle.bridge.proofs.Tests.{allPass}
 use Rattle.strings.proofs.Letters.{lookup-missed}
-use borrow.Author.Needs.{needs}
-use native.Mathlib.Omega.{arith}
 use Rattle.strings.proofs.escapes.escaped.Statement.{statement}
 use Rattle.strings.proofs.escapes.escaped.Tie as tie
-use Rattle.strings.proofs.escapes.escaped.Reads as reads
-use Rattle.strings.proofs.escapes.escaped.Lts as lts
 
--- src/escapes.rt:57:1
 returns : tie.Need-returns
 unfolding lookup ESCAPES
 returns c = rw (c .match .keys1)
 
--- src/escapes.rt:57:1
 returns-2 : tie.Need-returns-2
 unfolding lookup ESCAPES
 returns-2 c = rw (c .match .keys2)
 
--- src/escapes.rt:57:1
 returns-3 : tie.Need-returns-3
 unfolding lookup ESCAPES
 returns-3 c = rw (c .match .keys3)
 
--- src/escapes.rt:57:1
 returns-4 : tie.Need-returns-4
 unfolding lookup ESCAPES
 returns-4 c = rw (c .match .keys4)
 
--- src/escapes.rt:57:1
 returns-5 : tie.Need-returns-5
 unfolding lookup ESCAPES
 returns-5 c = rw (c .match .keys5)
 
--- src/escapes.rt:57:1
 returns-6 : tie.Need-returns-6
 unfolding lookup ESCAPES
 returns-6 c = rw (c .match .keys6)
 
--- src/escapes.rt:57:1
 returns-7 : tie.Need-returns-7
 unfolding lookup ESCAPES
 returns-7 c = rw (c .match .keys7)
 
--- src/escapes.rt:57:1
 returns-8 : tie.Need-returns-8
 unfolding lookup ESCAPES
 returns-8 c = rw (c .match .keys8)
 
--- src/escapes.rt:57:1
 returns-9 : tie.Need-returns-9
 unfolding lookup ESCAPES
 returns-9 c = rw (c .match .keys9)
 
--- src/escapes.rt:57:1
 returns-10 : tie.Need-returns-10
 unfolding lookup ESCAPES
 returns-10 c = rw (c .match .keys10)
 
--- src/escapes.rt:57:1
 returns-11 : tie.Need-returns-11
 unfolding lookup ESCAPES
 returns-11 c = rw (c .match .keys11)
 
--- src/escapes.rt:57:1
 returns-12 : tie.Need-returns-12
 unfolding oneOf allPass ESCAPES
 returns-12 c =
