@@ -73,8 +73,12 @@ pub fn put_char(c: u32, buf: &mut [u8], at: usize) -> usize
     ensures { λ r. ⌜ Put (now (buf .entry)) (now (buf .exit)) at (encodeChar c) r ⌝ }
 {
     let n = encoding::width_of(c);
-    if fitting(buf.len(), at, n) == n {
+    let room = fitting(buf.len(), at, n);
+    if room == n {
         return encoding::put_char(buf, at, c);
+    }
+    if room == 0 {
+        return at + n;
     }
     let mut bytes = [0u8; 4];
     encoding::put_char(&mut bytes, 0, c);
@@ -94,8 +98,12 @@ pub fn put_token(
     ensures { λ r. ⌜ Put (now (buf .entry)) (now (buf .exit)) at (tokenRecord kind span offset len) r ⌝ }
 {
     let n = kinds::record_length(kind);
-    if fitting(buf.len(), at, n) == n {
+    let room = fitting(buf.len(), at, n);
+    if room == n {
         return write::put_token(buf, at, kind, span, offset, len);
+    }
+    if room == 0 {
+        return at + n;
     }
     let mut bytes = [0u8; 33];
     write::put_token(&mut bytes, 0, kind, span, offset, len);
@@ -108,8 +116,12 @@ pub fn put_error(buf: &mut [u8], at: usize, kind: u8, span: Span, code: u32) -> 
     ensures { λ r. ⌜ Put (now (buf .entry)) (now (buf .exit)) at (errorRecord kind span code) r ⌝ }
 {
     let n = kinds::error_length(kind);
-    if fitting(buf.len(), at, n) == n {
+    let room = fitting(buf.len(), at, n);
+    if room == n {
         return write::put_error(buf, at, kind, span, code);
+    }
+    if room == 0 {
+        return at + n;
     }
     let mut bytes = [0u8; 29];
     write::put_error(&mut bytes, 0, kind, span, code);

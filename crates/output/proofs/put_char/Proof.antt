@@ -1,12 +1,12 @@
--- `output::put_char` meets its contract. Where the whole fits it is written at once; else it is made in a small buffer, whose
--- front is copied as far as it fits. Assumes nothing.
+-- `output::put_char` meets its contract. Where the whole fits it is written at once, and where none of it fits nothing is;
+-- else it is made in a small buffer, whose front is copied as far as it fits. Assumes nothing.
 use mathlib.Core.Path.{sym, _∙_}
 use native.Mathlib.Omega.{arith}
 use lib.ListN.{replicate}
 use borrow.Author.Needs.{needs}
 use Rattle.characters.specs.Utf8.{encodeChar}
 use Rattle.characters.proofs.Widths.{width-bounds, char-length}
-use Rattle.output.proofs.Buffers.{whole-room, whole-put, cut-put, same-size}
+use Rattle.output.proofs.Buffers.{whole-room, whole-put, none-put, cut-put, same-size}
 use Rattle.output.proofs.put_char.Statement.{statement}
 use Rattle.output.proofs.put_char.Tie as tie
 
@@ -33,30 +33,42 @@ returns c =
     let p = c .before .before .put-char .ensures in
     whole-put _ _ _ _ _ _ (char-length (a .c)) (p .0) (p .1)
 
+add-result : tie.Need-add-result
+add-result c =
+    let n = c .before .before .before .width-of .ensures in
+    omega (arith, n, width-bounds (c .before .before .before .before .before .args .c))
+
+returns-2 : tie.Need-returns-2
+returns-2 c =
+    let a = c .before .before .before .before .before .args in
+    let n = c .before .before .before .width-of .ensures in
+    let f = c .before .before .fitting .ensures in
+    none-put _ _ _ _ _ (char-length (a .c) ∙ sym n) f (c .before .if1 .left) (c .if2 .taken)
+
 slice-aggregate-put-char : tie.Need-slice-aggregate-put-char
 slice-aggregate-put-char c = search needs
 
 put-char-requires-2 : tie.Need-put-char-requires-2
 put-char-requires-2 c κs =
-    (c .before .before .before .before .before .pre .0, omega (arith, width-bounds (c .before .before .before .before .before .args .c)))
+    (c .before .before .before .before .before .before .pre .0, omega (arith, width-bounds (c .before .before .before .before .before .before .args .c)))
 
 slice-aggregate-put-part : tie.Need-slice-aggregate-put-part
 slice-aggregate-put-part c = search needs
 
 put-part-requires : tie.Need-put-part-requires
 put-part-requires c κs =
-    let a = c .before .before .before .before .before .before .before .before .before .args in
-    let n = c .before .before .before .before .before .before .before .width-of .ensures in
+    let a = c .before .before .before .before .before .before .before .before .before .before .args in
+    let n = c .before .before .before .before .before .before .before .before .width-of .ensures in
     let s = same-size _ (replicate 4 0) 0 (encodeChar (a .c)) (c .before .before .before .put-char2 .ensures .1) in
     omega (arith, width-bounds (a .c))
 
 same-length-2 : tie.Need-same-length-2
 same-length-2 c = search needs
 
-returns-2 : tie.Need-returns-2
-returns-2 c =
-    let a = c .before .before .before .before .before .before .before .before .before .before .before .before .args in
-    let n = c .before .before .before .before .before .before .before .before .before .before .width-of .ensures in
+returns-3 : tie.Need-returns-3
+returns-3 c =
+    let a = c .before .before .before .before .before .before .before .before .before .before .before .before .before .args in
+    let n = c .before .before .before .before .before .before .before .before .before .before .before .width-of .ensures in
     let m = width-bounds (a .c) in
     cut-put _ _ _ (replicate 4 0) _ _ _ _ (char-length (a .c) ∙ sym n) (omega (arith, m))
     (c .before .before .before .before .before .before .put-char2 .ensures .1) (c .before .before .put-part .ensures)
@@ -70,9 +82,11 @@ put-char-spec =
     put-char-requires
     same-length
     returns
+    add-result
+    returns-2
     slice-aggregate-put-char
     put-char-requires-2
     slice-aggregate-put-part
     put-part-requires
     same-length-2
-    returns-2)
+    returns-3)

@@ -1,5 +1,5 @@
--- `output::put_error` meets its contract. Where the whole fits it is written at once; else it is made in a small buffer, whose
--- front is copied as far as it fits. Assumes nothing.
+-- `output::put_error` meets its contract. Where the whole fits it is written at once, and where none of it fits nothing is;
+-- else it is made in a small buffer, whose front is copied as far as it fits. Assumes nothing.
 use mathlib.Core.Path.{sym, _∙_}
 use native.Mathlib.Omega.{arith}
 use lib.ListN.{replicate}
@@ -7,7 +7,7 @@ use borrow.Author.Needs.{needs}
 use Rattle.records.specs.Records.{errorRecord}
 use Rattle.records.proofs.Bytes.{length-error}
 use Rattle.output.proofs.Lengths.{error-bounds}
-use Rattle.output.proofs.Buffers.{whole-room, whole-put, cut-put, same-size}
+use Rattle.output.proofs.Buffers.{whole-room, whole-put, none-put, cut-put, same-size}
 use Rattle.output.proofs.put_error.Statement.{statement}
 use Rattle.output.proofs.put_error.Tie as tie
 
@@ -32,19 +32,31 @@ returns c =
     let p = c .before .before .put-error .ensures in
     whole-put _ _ _ _ _ _ (length-error (a .kind) (a .span) (a .code)) (p .0) (p .1)
 
+add-result : tie.Need-add-result
+add-result c =
+    let n = c .before .before .before .error-length .ensures in
+    omega (arith, n, error-bounds (c .before .before .before .before .before .args .kind))
+
+returns-2 : tie.Need-returns-2
+returns-2 c =
+    let a = c .before .before .before .before .before .args in
+    let n = c .before .before .before .error-length .ensures in
+    let f = c .before .before .fitting .ensures in
+    none-put _ _ _ _ _ (length-error (a .kind) (a .span) (a .code) ∙ sym n) f (c .before .if1 .left) (c .if2 .taken)
+
 slice-aggregate-put-error : tie.Need-slice-aggregate-put-error
 slice-aggregate-put-error c = search needs
 
 put-error-requires-2 : tie.Need-put-error-requires-2
-put-error-requires-2 c κs = omega (arith, error-bounds (c .before .before .before .before .before .args .kind))
+put-error-requires-2 c κs = omega (arith, error-bounds (c .before .before .before .before .before .before .args .kind))
 
 slice-aggregate-put-part : tie.Need-slice-aggregate-put-part
 slice-aggregate-put-part c = search needs
 
 put-part-requires : tie.Need-put-part-requires
 put-part-requires c κs =
-    let a = c .before .before .before .before .before .before .before .before .before .args in
-    let n = c .before .before .before .before .before .before .before .error-length .ensures in
+    let a = c .before .before .before .before .before .before .before .before .before .before .args in
+    let n = c .before .before .before .before .before .before .before .before .error-length .ensures in
     let v = errorRecord (a .kind) (a .span) (a .code) in
     let s = same-size _ (replicate 29 0) 0 v (c .before .before .before .put-error2 .ensures .1) in
     omega (arith, error-bounds (a .kind))
@@ -52,10 +64,10 @@ put-part-requires c κs =
 same-length-2 : tie.Need-same-length-2
 same-length-2 c = search needs
 
-returns-2 : tie.Need-returns-2
-returns-2 c =
-    let a = c .before .before .before .before .before .before .before .before .before .before .before .before .args in
-    let n = c .before .before .before .before .before .before .before .before .before .before .error-length .ensures in
+returns-3 : tie.Need-returns-3
+returns-3 c =
+    let a = c .before .before .before .before .before .before .before .before .before .before .before .before .before .args in
+    let n = c .before .before .before .before .before .before .before .before .before .before .before .error-length .ensures in
     let m = error-bounds (a .kind) in
     cut-put _ _ _ (replicate 29 0) _ _ _ _ (length-error (a .kind) (a .span) (a .code) ∙ sym n) (omega (arith, m))
     (c .before .before .before .before .before .before .put-error2 .ensures .1) (c .before .before .put-part .ensures)
@@ -69,9 +81,11 @@ put-error-spec =
     put-error-requires
     same-length
     returns
+    add-result
+    returns-2
     slice-aggregate-put-error
     put-error-requires-2
     slice-aggregate-put-part
     put-part-requires
     same-length-2
-    returns-2)
+    returns-3)
