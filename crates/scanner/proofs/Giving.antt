@@ -2,7 +2,7 @@
 use mathlib.Core.Path.{_≡_, refl, sym, ap, _∙_, subst}
 use mathlib.Core.Bool.{Bool, true, false, _||_}
 use mathlib.Core.List.{List, [], _∷_, _++_, append-assoc}
-use Prim.Native.Nat.{ℕ, _+_}
+use Prim.Native.Nat.{ℕ, _+_, _≤_}
 use native.Mathlib.Omega.{arith}
 use lib.ListN.{length, length-append}
 use lib.Seq.{sets}
@@ -23,10 +23,12 @@ use Rattle.output.proofs.Buffers.{put-none}
 use Rattle.walks.specs.declared.Skipped.{Skipped}
 use Rattle.walks.specs.Skips.{SkippedAt}
 use Rattle.walks.proofs.Errors.{put-no}
-use Rattle.scanner.specs.Step.{Rest, restOf, restWithin, rest, nothingLeft, andThen, GivesOf, GivenBy, Stepped, restOutside}
+use Rattle.scanner.specs.Step.{Rest, restOf, restWithin, rest, nothingLeft, andThen, Good, Used, GivesOf, GivenBy, Stepped, Begins, Entered, restOutside}
 use Rattle.scanner.specs.Tokens.{endToken, cursorOf, isEnded, Found, FoundBy}
 use Rattle.scanner.specs.declared.Step.{Step}
 use Rattle.scanner.specs.declared.Step.the-variants as step
+use Rattle.scanner.specs.declared.Entry.{Entry}
+use Rattle.scanner.specs.declared.Entry.the-variants as entry
 use Rattle.scanner.specs.declared.Cursor.{Cursor}
 use Rattle.scanner.specs.declared.Token as code
 use Rattle.scanner.specs.declared.Within as W
@@ -43,7 +45,7 @@ rest-then t es o r = refl
 going : (w : W.Within) (p : Position) (cs : Text) → isEnded w ≡ false → restWithin w p cs ≡ restOf (left (cursorOf w p) cs)
 unfolding restWithin isEnded
 going Outside p cs e = refl
-going (Inside start) p cs e = refl
+going (Inside o l c) p cs e = refl
 going Ended p cs e = absurd (let z : _≡_ {A = Bool} true false = e in true-not z)
   where
     true-not : true ≡ false → ⊥
@@ -203,11 +205,50 @@ module _ (s texts : List ℕ) (ut : ℕ) (errors : List ℕ) (ue : ℕ) (texts�
   unfolding rest restWithin
   stepped-outside x e g = stepped (restOutside s (c .at)) x (rw e) g
 
-  pub stepped-inside : (start : Position) (x : Step) → c .within ≡ Inside start
+  pub stepped-inside : (start : Position) (x : Step) → c .within ≡ Inside (start .offset) (start .line) (start .col)
       → GivenBy (restOf (left (cur.InString start (c .at)) (charsAt s (c .at .offset)))) s texts ut errors ue x texts′ errors′
       → Stepped s c texts ut errors ue x texts′ errors′
   unfolding rest restWithin
   stepped-inside start x e g = stepped (restOf (left (cur.InString start (c .at)) (charsAt s (c .at .offset)))) x (rw e) g
+
+  -- The same of a piece that is known to be the step.
+  pub stepped-piece : (start : Position) (t : code.Token) (c′ : Cursor) (x : Step) → x ≡ step.Token t c′
+      → c .within ≡ Inside (start .offset) (start .line) (start .col)
+      → GivesOf (restOf (left (cur.InString start (c .at)) (charsAt s (c .at .offset)))) s texts ut errors ue t c′ texts′ errors′
+      → Stepped s c texts ut errors ue x texts′ errors′
+  stepped-piece start t c′ x e w g =
+      subst (λ (y : Step). Stepped s c texts ut errors ue y texts′ errors′) (sym e) (stepped-inside start (step.Token t c′) w g)
+
+-- Where a step from a cursor begins: at the cursor, or behind a string that gave no more.
+module _ (s texts : List ℕ) (ut : ℕ) (errors : List ℕ) (ue : ℕ) (c : Cursor) where
+  pub begins-outside : Good s c → Used ut ue → c .within ≡ Outside → Begins s c texts ut errors ue (c .at) ue texts errors
+  begins-outside g u e =
+      record {
+        within = g .at;
+        few = omega (arith, u .errors);
+        onward = λ x texts′ errors′ h. stepped-outside s texts ut errors ue texts′ errors′ c x e h;
+      }
+
+  pub begins-inside : (start q : Position) (used : ℕ) (texts₁ errors₁ : List ℕ) → Within s q → used ≤ 5368709120
+      → c .within ≡ Inside (start .offset) (start .line) (start .col)
+      → ((x : Step) (texts′ errors′ : List ℕ) → GivenBy (restOutside s q) s texts₁ ut errors₁ used x texts′ errors′
+      → GivenBy (restOf (left (cur.InString start (c .at)) (charsAt s (c .at .offset)))) s texts ut errors ue x texts′ errors′)
+      → Begins s c texts ut errors ue q used texts₁ errors₁
+  begins-inside start q used texts₁ errors₁ i few e h =
+      record {
+        within = i;
+        few = few;
+        onward = λ x texts′ errors′ g. stepped-inside s texts ut errors ue texts′ errors′ c start x e (h x texts′ errors′ g);
+      }
+
+module _ (s : List ℕ) (c : Cursor) (texts : List ℕ) (ut : ℕ) (errors : List ℕ) (ue : ℕ) (texts′ errors′ : List ℕ) where
+  pub entered-known : (x : Step) (y : Entry) → y ≡ entry.Known x → Entered s c texts ut errors ue y texts′ errors′
+      → Stepped s c texts ut errors ue x texts′ errors′
+  entered-known x y e h = subst (λ (z : Entry). Entered s c texts ut errors ue z texts′ errors′) e h
+
+  pub entered-from : (q : Position) (used : ℕ) (y : Entry) → y ≡ entry.From q used → Entered s c texts ut errors ue y texts′ errors′
+      → Begins s c texts ut errors ue q used texts′ errors′
+  entered-from q used y e h = subst (λ (z : Entry). Entered s c texts ut errors ue z texts′ errors′) e h
 
 pub stepped-end : (s : List ℕ) (c : Cursor) → c .within ≡ Ended → rest s c ≡ nothingLeft
 unfolding rest restWithin

@@ -23,7 +23,7 @@ givenToken g =
 
 abbrev pub nextCursor : cursor.Cursor → Cursor
 nextCursor (cur.Outside p) = outsideAt p
-nextCursor (cur.InString start p) = record { at = p; within = Inside start }
+nextCursor (cur.InString start p) = record { at = p; within = Inside (start .offset) (start .line) (start .col) }
 
 abbrev pub givenStep : Given → Step
 givenStep g = step.Token (givenToken g) (nextCursor (g .next))

@@ -22,6 +22,8 @@ use Rattle.scanner.specs.declared.Cursor.{Cursor}
 use Rattle.scanner.specs.declared.Token.{Token}
 use Rattle.scanner.specs.declared.Step.{Step}
 use Rattle.scanner.specs.declared.Step.the-variants as step
+use Rattle.scanner.specs.declared.Entry.{Entry}
+use Rattle.scanner.specs.declared.Entry.the-variants as entry
 
 -- ── What is still to come from a cursor on ──
 
@@ -39,7 +41,7 @@ nothingLeft = record { tokens = []; errors = []; ran-out = false }
 
 unfoldable pub restWithin : W.Within → Position → Text → Rest
 restWithin Outside p cs = restOf (left (cursor.Outside p) cs)
-restWithin (Inside start) p cs = restOf (left (cursor.InString start p) cs)
+restWithin (Inside o l c) p cs = restOf (left (cursor.InString (record { offset = o; line = l; col = c }) p) cs)
 restWithin Ended p cs = nothingLeft
 
 -- From the cursor `c` on, of the text `s`.
@@ -111,3 +113,19 @@ abbrev pub Stepped : List ℕ → Cursor → List ℕ → ℕ → List ℕ → �
 Stepped s c texts₀ usedTexts errors₀ usedErrors (step.Token t c′) texts₁ errors₁ =
     Gives s c texts₀ usedTexts errors₀ usedErrors t c′ texts₁ errors₁
 Stepped s c texts₀ usedTexts errors₀ usedErrors step.End texts₁ errors₁ = Ends s c texts₀ errors₀ texts₁ errors₁
+
+-- ── Where a step begins ──
+
+-- A step outside of strings is begun at `q`: what it gives from there is what the step from `c` gives.
+pub record Begins (s : List ℕ) (c : Cursor) (texts₀ : List ℕ) (usedTexts : ℕ) (errors₀ : List ℕ) (usedErrors : ℕ)
+    (q : Position) (used : ℕ) (texts₁ errors₁ : List ℕ) : Type 0 where
+  pub within : bridge.Within s q
+  pub few : used ≤ 5368709120
+  pub onward : (x : Step) (texts₂ errors₂ : List ℕ) → GivenBy (restOutside s q) s texts₁ usedTexts errors₁ used x texts₂ errors₂
+      → Stepped s c texts₀ usedTexts errors₀ usedErrors x texts₂ errors₂
+
+abbrev pub Entered : List ℕ → Cursor → List ℕ → ℕ → List ℕ → ℕ → Entry → List ℕ → List ℕ → Type 0
+Entered s c texts₀ usedTexts errors₀ usedErrors (entry.Known x) texts₁ errors₁ =
+    Stepped s c texts₀ usedTexts errors₀ usedErrors x texts₁ errors₁
+Entered s c texts₀ usedTexts errors₀ usedErrors (entry.From q used) texts₁ errors₁ =
+    Begins s c texts₀ usedTexts errors₀ usedErrors q used texts₁ errors₁

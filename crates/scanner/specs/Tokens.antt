@@ -92,12 +92,12 @@ partStep p q texts errors = step.Token (partToken p q texts errors) (outsideAt q
 -- The rules' cursor, for one that has not ended.
 abbrev pub cursorOf : W.Within → Position → cursor.Cursor
 cursorOf Outside p = cur.Outside p
-cursorOf (Inside start) p = cur.InString start p
+cursorOf (Inside o l c) p = cur.InString (record { offset = o; line = l; col = c }) p
 cursorOf Ended p = cur.Outside p
 
 unfoldable pub isEnded : W.Within → Bool
 isEnded Outside = false
-isEnded (Inside start) = false
+isEnded (Inside o l c) = false
 isEnded Ended = true
 
 -- The token `t` of the code is the token `token` of the rules with the errors `es`: its record, its text written behind the texts

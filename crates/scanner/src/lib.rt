@@ -9,10 +9,10 @@ pub mod inside; // inside.rt: steps inside of strings
 pub mod scan; // scan.rt: the choice of what begins at a position
 pub mod steps; // steps.rt: one step, outside and inside of strings
 
-// Where the cursor stands: outside of strings, inside a string that began at a position, or behind EOF.
+// Where the cursor stands: outside of strings, inside a string with the place, line and column of its start, or behind EOF.
 pub enum Within {
     Outside,
-    Inside(Position),
+    Inside(usize, usize, usize),
     Ended,
 }
 
@@ -37,4 +37,11 @@ pub struct Token {
 pub enum Step {
     Token(Token, Cursor),
     End,
+}
+
+// A step that is known already; or the position at which one outside of strings begins, and how many bytes of the errors are used
+// there.
+pub enum Entry {
+    Known(Step),
+    From(Position, usize),
 }

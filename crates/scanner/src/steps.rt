@@ -1,16 +1,14 @@
 // One step, outside and inside of strings.
 ghost use mathlib.Core.Path.{_≡_};
-ghost use Rattle.characters.specs.Utf8.{charsAt};
-ghost use Rattle.cursor.specs.Cursor.{left};
-ghost use Rattle.cursor.specs.declared.Cursor.the-variants.{InString};
 ghost use Rattle.bridge.specs.Bridge.{Within as InText};
 ghost use Rattle.words.specs.Classes.{classTable};
 ghost use Rattle.words.specs.Keywords.{slotTable, keywordTable};
 ghost use Rattle.words.specs.Marks.{markTable};
 ghost use Rattle.words.specs.Words.{Lent};
-ghost use Rattle.scanner.specs.Step.{Good, Used, Roomy, GivenBy, Stepped, restOf};
+ghost use Rattle.scanner.specs.Step.{Good, Used, Roomy, Stepped, Entered};
 ghost use Rattle.scanner.specs.Tokens.{GivenAt};
 use super::Cursor;
+use super::Entry;
 use super::Step;
 use super::Within;
 use super::inside;
@@ -58,51 +56,42 @@ pub fn outside_step(
     )
 }
 
-// The next piece of the string that began at `start`; or the next token behind it, where it gives no more.
-pub fn inside_step(
-    classes: &[u8; 128],
-    marks: &[[u8; 12]; 25],
-    slots: &[u8; 256],
-    keywords: &[[u8; 11]; 60],
+// Where a step from a cursor begins: inside a string its next piece is the step, and where the string gives no more, a step behind it
+// is begun.
+fn enter(
     text: &[u8],
-    p: Position,
-    start: Position,
+    c: Cursor,
     texts: &mut [u8],
     used_texts: usize,
     errors: &mut [u8],
     used_errors: usize,
-) -> Step
-    requires { ⌜ Lent (now classes) (now marks) (now slots) (now keywords) ⌝ }
-    requires { ⌜ InText (now text) p ⌝ }
-    requires { ⌜ Roomy 4294967296 «used_texts» «used_errors» ⌝ }
-    ensures { λ r. ⌜ GivenBy (restOf (left (InString start p) (charsAt (now (text .entry)) (p .offset)))) (now (text .entry)) (now (texts .entry)) «used_texts» (now (errors .entry)) «used_errors» r (now (texts .exit)) (now (errors .exit)) ⌝ }
+) -> Entry
+    requires { ⌜ Good (now text) c ⌝ }
+    requires { ⌜ Used «used_texts» «used_errors» ⌝ }
+    ensures { λ r. ⌜ Entered (now (text .entry)) c (now (texts .entry)) «used_texts» (now (errors .entry)) «used_errors» r (now (texts .exit)) (now (errors .exit)) ⌝ }
 {
-    let x = pieces::piece(
-        text,
-        p,
-        start,
-        false,
-        texts,
-        used_texts,
-        errors,
-        used_errors,
-    );
-    match x {
-        Piece::Token(g) => inside::given_step(g),
-        Piece::Over(q, used) => {
-            outside_step(
-                classes,
-                marks,
-                slots,
-                keywords,
+    let p = c.at;
+    let within = c.within;
+    match within {
+        Within::Outside => Entry::From(p, used_errors),
+        Within::Inside(offset, line, col) => {
+            let start = Position { offset, line, col };
+            let x = pieces::piece(
                 text,
-                q,
+                p,
+                start,
+                false,
                 texts,
                 used_texts,
                 errors,
-                used,
-            )
+                used_errors,
+            );
+            match x {
+                Piece::Token(g) => Entry::Known(inside::given_step(g)),
+                Piece::Over(q, used) => Entry::From(q, used),
+            }
         }
+        Within::Ended => Entry::Known(Step::End),
     }
 }
 
@@ -128,10 +117,10 @@ pub fn step(
     requires { ⌜ Used «used_texts» «used_errors» ⌝ }
     ensures { λ r. ⌜ Stepped (now (text .entry)) c (now (texts .entry)) «used_texts» (now (errors .entry)) «used_errors» r (now (texts .exit)) (now (errors .exit)) ⌝ }
 {
-    let p = c.at;
-    let within = c.within;
-    match within {
-        Within::Outside => {
+    let e = enter(text, c, texts, used_texts, errors, used_errors);
+    match e {
+        Entry::Known(s) => s,
+        Entry::From(p, used) => {
             outside_step(
                 classes,
                 marks,
@@ -142,24 +131,8 @@ pub fn step(
                 texts,
                 used_texts,
                 errors,
-                used_errors,
+                used,
             )
         }
-        Within::Inside(start) => {
-            inside_step(
-                classes,
-                marks,
-                slots,
-                keywords,
-                text,
-                p,
-                start,
-                texts,
-                used_texts,
-                errors,
-                used_errors,
-            )
-        }
-        Within::Ended => Step::End,
     }
 }
