@@ -1,0 +1,158 @@
+/* The proved Aura lexer: the calls of the static library libaura_host.a, for C99 and C++.
+ *
+ * Every call
+ *   - answers at once: it keeps no memory, takes no heap, starts nothing, and may run on several threads at a time;
+ *   - takes a slice as a pointer and a length in bytes.
+ *
+ * The caller has to see to this, as for any C function:
+ *   - no pointer is NULL, also where the length is 0;
+ *   - each pointer leads to as many bytes (or slots) as the call is told;
+ *   - the buffers that a call writes and its answer overlap neither each other nor the slices that it reads.
+ *
+ * Except for the four calls on characters, a call returns 0 for a yes, else the number of the refusal (AURA_REFUSED_..). A
+ * refusal sets answer[0] to its figure and changes nothing else: the other slots and every lent buffer keep their bytes.
+ */
+#ifndef AURA_LEXER_H
+#define AURA_LEXER_H
+
+#include <stddef.h>
+#include <stdint.h>
+
+#ifdef __cplusplus
+extern "C" {
+#endif
+
+/* The library is for machines with 64-bit sizes. */
+typedef char aura_size_has_64_bits[sizeof(size_t) == 8 ? 1 : -1];
+
+/* The longest script, in bytes, its byte-order mark counted. */
+#define AURA_LIMIT ((size_t)1048576)
+
+/* Buffers of these sizes are never too small for a script of n bytes, and are filled in one pass. */
+#define AURA_TOKENS_ROOM(n) (33 * ((size_t)(n) + 1))
+#define AURA_TEXTS_ROOM(n) (2 * (size_t)(n) + 2)
+#define AURA_ERRORS_ROOM(n) (29 * (size_t)(n))
+
+/* The numbers of the refusals, with their figures. */
+enum {
+    AURA_YES = 0,
+    AURA_REFUSED_LENGTH = 1, /* the script is over AURA_LIMIT bytes; its length */
+    AURA_REFUSED_UTF8 = 2,   /* the script is not UTF-8; the first byte of the first bad sequence, the mark counted */
+    AURA_REFUSED_TOKENS = 3, /* the token buffer is too small; the bytes needed */
+    AURA_REFUSED_TEXTS = 4,  /* the text buffer is too small; the bytes needed */
+    AURA_REFUSED_ERRORS = 5, /* the error buffer is too small; the bytes needed */
+    AURA_REFUSED_KIND = 6,   /* a kind over 125 was asked for; that kind */
+    AURA_REFUSED_PLACE = 7,  /* no whole record of a known kind starts at the place; the place */
+    AURA_REFUSED_TEXT = 8    /* the record's text lies outside its buffer; its offset */
+};
+
+/* The kinds of errors. */
+enum {
+    AURA_ERROR_CHARACTER = 1,      /* a character that begins no token; its code point is in the record */
+    AURA_ERROR_COMMENT = 2,        /* a block comment without its end */
+    AURA_ERROR_RAW_STRING = 3,     /* a raw string without its end */
+    AURA_ERROR_STRING_END = 4,     /* a string without its end, at the end of the text */
+    AURA_ERROR_STRING_LINE = 5,    /* a string without its end, at a line feed */
+    AURA_ERROR_UNICODE = 6,        /* \u without four hexadecimal digits */
+    AURA_ERROR_ESCAPE = 7,         /* a backslash before another character; its code point is in the record */
+    AURA_ERROR_INTERPOLATION = 8,  /* ${ in a string without its } */
+    AURA_ERROR_CHAR_LITERAL = 9,   /* a character literal without its closing quote */
+    AURA_ERROR_DOC_COMMENT = 10    /* a block doc comment without its end */
+};
+
+/* Records. All numbers are 32-bit little-endian. Offsets count bytes after the script's byte-order mark.
+ *
+ *   token record   0 kind, 1 start, 5 end, 9 start line, 13 start column, 17 end line, 21 end column: 25 bytes; the kinds
+ *                  0 to 5, 39, 121, 123 and 125 go on with 25 text offset, 29 text length: 33 bytes
+ *   error record   the same 25 bytes with the error's kind; 1 and 7 go on with 25 code point: 29 bytes
+ *
+ * The text of the kinds 2, 3, 121 and 123 is a part of the text buffer, that of 0, 1, 4, 5, 39 and 125 a part of the script after
+ * its mark. Other kinds have a fixed spelling or none (aura_kinds.h).
+ *
+ * end is the offset of the last character for names and keywords (kinds 4 to 68), equals start for a lone mark, and is one past
+ * the last character for all others. */
+
+/* The slots of each answer. Of a refusal only the first has a meaning: AURA_FIGURE. */
+enum { AURA_FIGURE = 0 };
+
+/* aura_measure, aura_tokenize. */
+enum {
+    AURA_USED_TOKENS = 0, /* bytes used in the token buffer */
+    AURA_USED_TEXTS = 1,  /* bytes used in the text buffer */
+    AURA_USED_ERRORS = 2, /* bytes used in the error buffer */
+    AURA_USED_COUNT = 3,  /* the number of tokens, EOF counted */
+    AURA_USED_CLOSED = 4, /* 1: nothing is open at the script's end; 0: something is */
+    AURA_USED_SLOTS = 5
+};
+
+/* aura_next_token; aura_consume with one slot more; aura_match_kind with the place and one slot; aura_next_error. */
+enum {
+    AURA_NEXT_PLACE = 0, /* the place of the next record */
+    AURA_KIND = 1,
+    AURA_START = 2,
+    AURA_END = 3,
+    AURA_START_LINE = 4,
+    AURA_START_COLUMN = 5,
+    AURA_END_LINE = 6,
+    AURA_END_COLUMN = 7,
+    AURA_TEXT_OFFSET = 8, /* 0 for a kind without a text */
+    AURA_TEXT_LENGTH = 9, /* 0 for a kind without a text */
+    AURA_TOKEN_SLOTS = 10,
+    AURA_CONSUME_FITS = 10, /* 1: the token is of the kind asked for; 0: it is not */
+    AURA_CONSUME_SLOTS = 11,
+    AURA_MATCH_FITS = 1, /* 1: the token is of the kind asked for; 0: it is not */
+    AURA_MATCH_SLOTS = 2,
+    AURA_CODE_POINT = 8, /* 0 for an error that names no character */
+    AURA_ERROR_SLOTS = 9,
+    AURA_CHECK_SLOTS = 1
+};
+
+/* Tokenises a script into three lent buffers. Bytes beyond those used keep. Refusals 1 to 5. */
+uint64_t aura_tokenize(const uint8_t *script, size_t script_length,
+                       uint8_t *tokens, size_t tokens_length,
+                       uint8_t *texts, size_t texts_length,
+                       uint8_t *errors, size_t errors_length,
+                       uint64_t answer[AURA_USED_SLOTS]);
+
+/* What tokenising would answer. It writes the answer only. Refusals 1 and 2. */
+uint64_t aura_measure(const uint8_t *script, size_t script_length, uint64_t answer[AURA_USED_SLOTS]);
+
+/* The token record at a place. At EOF the next place is the same place. Refusal 7. */
+uint64_t aura_next_token(const uint8_t *tokens, size_t tokens_length, size_t place, uint64_t answer[AURA_TOKEN_SLOTS]);
+
+/* The same, and whether the token is of a kind. The next place is behind the record either way. Refusals 6 and 7. */
+uint64_t aura_consume(const uint8_t *tokens, size_t tokens_length, size_t place, uint8_t kind,
+                      uint64_t answer[AURA_CONSUME_SLOTS]);
+
+/* Whether the token at a place is of a kind. The next place is behind the record only then. Refusals 6 and 7. */
+uint64_t aura_match_kind(const uint8_t *tokens, size_t tokens_length, size_t place, uint8_t kind,
+                         uint64_t answer[AURA_MATCH_SLOTS]);
+
+/* The error record at a place. There is no EOF among the errors: behind the last one it answers 7. Refusal 7. */
+uint64_t aura_next_error(const uint8_t *errors, size_t errors_length, size_t place, uint64_t answer[AURA_ERROR_SLOTS]);
+
+/* Whether the text of the token record at a place lies inside its buffer; yes for a kind without a text. The script is lent as it
+ * was to tokenising, its mark included. A yes sets no slot. Refusals 7 and 8. */
+uint64_t aura_text_check(const uint8_t *script, size_t script_length,
+                         const uint8_t *texts, size_t texts_length,
+                         const uint8_t *tokens, size_t tokens_length,
+                         size_t place, uint64_t answer[AURA_CHECK_SLOTS]);
+
+/* 0 where the text is UTF-8 (place keeps), else 2 and the first byte of the first bad sequence in *place. Any length is taken. */
+uint64_t aura_first_bad(const uint8_t *text, size_t length, uint64_t *place);
+
+/* The bytes of the byte-order mark that the text begins with: 3 or 0. */
+uint64_t aura_mark_length(const uint8_t *text, size_t length);
+
+/* 1 where the code point is white space, else 0. */
+uint64_t aura_is_white(uint32_t code);
+
+/* Writes a character as UTF-8 at a place of the buffer: the bytes written, 1 to 4; or 0 where the code point is no character or
+ * does not fit, and then the buffer keeps. */
+uint64_t aura_encode_char(uint32_t code, uint8_t *buffer, size_t length, size_t at);
+
+#ifdef __cplusplus
+}
+#endif
+
+#endif
