@@ -1,4 +1,4 @@
-// Links the static library of the proved crates, and takes in the original lexer where its sources are at hand.
+// Takes in the original lexer where its sources are at hand. The proved one is linked by the crate `aura_lexer`.
 use std::env;
 use std::fs;
 use std::path::{Path, PathBuf};
@@ -9,16 +9,12 @@ fn original(src: &Path) -> String {
     text += "pub use span::Span;\n";
     text += "#[path = \"SRC/token.rs\"]\n#[allow(dead_code)]\npub mod token;\n";
     text += "#[path = \"SRC/lexer.rs\"]\n#[allow(dead_code)]\npub mod lexer;\n";
+    text += "/// The source of the token kinds, for their names.\npub const TOKEN_RS: &str = include_str!(\"SRC/token.rs\");\n";
     text.replace("SRC", &src.display().to_string())
 }
 
 fn main() {
     let here = PathBuf::from(env::var("CARGO_MANIFEST_DIR").expect("cargo sets it"));
-    let library = here.join("../target/staticlib");
-    println!("cargo:rustc-link-search=native={}", library.display());
-    println!("cargo:rustc-link-lib=static=aura_host");
-    println!("cargo:rerun-if-changed={}", library.join("libaura_host.a").display());
-
     println!("cargo:rerun-if-env-changed=AURA_SRC");
     println!("cargo:rustc-check-cfg=cfg(oracle)");
     let src = env::var("AURA_SRC").map(PathBuf::from).unwrap_or(here.join("../../shared/docs/src/seed/compiler/src"));

@@ -1,63 +1,23 @@
-//! The proved library's calls, each behind a safe function. A slice is passed as a pointer and a length.
-
-mod calls {
-    extern "C" {
-        pub fn aura_first_bad(text: *const u8, length: usize, place: *mut u64) -> u64;
-        pub fn aura_mark_length(text: *const u8, length: usize) -> u64;
-        pub fn aura_is_white(code: u32) -> u64;
-        pub fn aura_encode_char(code: u32, buffer: *mut u8, length: usize, at: usize) -> u64;
-        pub fn aura_measure(script: *const u8, length: usize, answer: *mut [u64; 5]) -> u64;
-        pub fn aura_tokenize(
-            script: *const u8,
-            script_length: usize,
-            tokens: *mut u8,
-            tokens_length: usize,
-            texts: *mut u8,
-            texts_length: usize,
-            errors: *mut u8,
-            errors_length: usize,
-            answer: *mut [u64; 5],
-        ) -> u64;
-        pub fn aura_next_token(tokens: *const u8, length: usize, place: usize, answer: *mut [u64; 10]) -> u64;
-        pub fn aura_consume(tokens: *const u8, length: usize, place: usize, kind: u8, answer: *mut [u64; 11]) -> u64;
-        pub fn aura_match_kind(tokens: *const u8, length: usize, place: usize, kind: u8, answer: *mut [u64; 2]) -> u64;
-        pub fn aura_next_error(errors: *const u8, length: usize, place: usize, answer: *mut [u64; 9]) -> u64;
-        pub fn aura_text_check(
-            script: *const u8,
-            script_length: usize,
-            texts: *const u8,
-            texts_length: usize,
-            tokens: *const u8,
-            tokens_length: usize,
-            place: usize,
-            answer: *mut [u64; 1],
-        ) -> u64;
-    }
-}
-
-/// The number of a refusal and its figure.
-#[derive(Clone, Copy, Debug, PartialEq, Eq)]
-pub struct Refusal {
-    pub number: u64,
-    pub figure: u64,
-}
-
-/// The bytes used in each buffer, the number of tokens, and whether the script is closed.
-#[derive(Clone, Copy, Debug, PartialEq, Eq)]
-pub struct Used {
-    pub tokens: usize,
-    pub texts: usize,
-    pub errors: usize,
-    pub count: usize,
-    pub closed: bool,
-}
+//! The proved library's calls by way of the crate `aura_lexer`. The answers are lent with a guard value in every slot, so that
+//! slots without a meaning are seen to keep; the typed functions of the crate have to answer the same.
+pub use aura_lexer::{Refusal, Used};
+use aura_lexer::{raw, TokenReader};
 
 const KEPT: u64 = 0xEEEE_EEEE_EEEE_EEEE;
+
+/// The answer of a yes, or the refusal; a refusal sets the first slot only.
+fn answered<const N: usize>(number: u64, answer: [u64; N]) -> Result<[u64; N], Refusal> {
+    if number == 0 {
+        return Ok(answer);
+    }
+    assert_eq!(answer[1..], [KEPT; N][1..], "a refusal sets the first slot only");
+    Err(Refusal { number, figure: answer[0] })
+}
 
 /// The number of the refusal and the first byte of the first bad sequence, or none where the text is UTF-8.
 pub fn first_bad(text: &[u8]) -> Option<(u64, u64)> {
     let mut place = KEPT;
-    let number = unsafe { calls::aura_first_bad(text.as_ptr(), text.len(), &mut place) };
+    let number = raw::first_bad(text, &mut place);
     if number == 0 {
         assert_eq!(place, KEPT, "a yes keeps the place");
         None
@@ -68,105 +28,97 @@ pub fn first_bad(text: &[u8]) -> Option<(u64, u64)> {
 
 /// The bytes of the byte-order mark that the text begins with.
 pub fn mark_length(text: &[u8]) -> u64 {
-    unsafe { calls::aura_mark_length(text.as_ptr(), text.len()) }
+    raw::mark_length(text)
 }
 
 pub fn is_white(code: u32) -> bool {
-    unsafe { calls::aura_is_white(code) != 0 }
+    aura_lexer::is_white(code)
 }
 
 /// The bytes written at the place, 0 for a refusal.
 pub fn encode_char(code: u32, buffer: &mut [u8], at: u64) -> u64 {
-    unsafe { calls::aura_encode_char(code, buffer.as_mut_ptr(), buffer.len(), at as usize) }
+    raw::encode_char(code, buffer, at as usize)
 }
 
-fn answered(number: u64, answer: [u64; 5]) -> Result<Used, Refusal> {
-    if number != 0 {
-        assert_eq!(answer[1..], [KEPT; 4], "a refusal sets the first slot only");
-        return Err(Refusal { number, figure: answer[0] });
-    }
-    let [tokens, texts, errors, count, closed] = answer;
-    assert!(closed <= 1, "closed is 0 or 1");
-    Ok(Used { tokens: tokens as usize, texts: texts as usize, errors: errors as usize, count: count as usize, closed: closed == 1 })
+fn used(number: u64, answer: [u64; 5]) -> Result<Used, Refusal> {
+    let slots = answered(number, answer)?;
+    assert!(slots[4] <= 1, "closed is 0 or 1");
+    Used::from_answer(number, slots)
 }
 
 pub fn measure(script: &[u8]) -> Result<Used, Refusal> {
     let mut answer = [KEPT; 5];
-    let number = unsafe { calls::aura_measure(script.as_ptr(), script.len(), &mut answer) };
-    answered(number, answer)
+    let number = raw::measure(script, &mut answer);
+    used(number, answer)
 }
 
 pub fn tokenize(script: &[u8], tokens: &mut [u8], texts: &mut [u8], errors: &mut [u8]) -> Result<Used, Refusal> {
     let mut answer = [KEPT; 5];
-    let number = unsafe {
-        calls::aura_tokenize(
-            script.as_ptr(),
-            script.len(),
-            tokens.as_mut_ptr(),
-            tokens.len(),
-            texts.as_mut_ptr(),
-            texts.len(),
-            errors.as_mut_ptr(),
-            errors.len(),
-            &mut answer,
-        )
-    };
-    answered(number, answer)
+    let number = raw::tokenize(script, tokens, texts, errors, &mut answer);
+    used(number, answer)
+}
+
+/// The slots of a token after the place, as the crate's typed token has them.
+fn token_slots(token: aura_lexer::Token) -> [u64; 9] {
+    let [a, b, c, d, e, f] = token.span.fields();
+    [u64::from(token.kind.number()), a, b, c, d, e, f, token.offset, token.length]
 }
 
 /// The next place, the kind, the span, the text's offset and length.
 pub fn next_token(tokens: &[u8], place: usize) -> Result<[u64; 10], Refusal> {
     let mut answer = [KEPT; 10];
-    match unsafe { calls::aura_next_token(tokens.as_ptr(), tokens.len(), place, &mut answer) } {
-        0 => Ok(answer),
-        number => Err(Refusal { number, figure: answer[0] }),
-    }
+    let number = raw::next_token(tokens, place, &mut answer);
+    let ours = answered(number, answer);
+    let mut reader = TokenReader::at(tokens, place);
+    let typed = reader.next_token().map(token_slots);
+    assert_eq!(typed, ours.map(|r| r[1..].try_into().expect("nine")), "the typed reader's token");
+    assert_eq!(reader.place() as u64, ours.map_or(place as u64, |r| r[0]), "the typed reader's place");
+    ours
 }
 
 /// The next token's values, and 1 where the kind is the one asked for.
 pub fn consume(tokens: &[u8], place: usize, kind: u8) -> Result<[u64; 11], Refusal> {
     let mut answer = [KEPT; 11];
-    match unsafe { calls::aura_consume(tokens.as_ptr(), tokens.len(), place, kind, &mut answer) } {
-        0 => Ok(answer),
-        number => Err(Refusal { number, figure: answer[0] }),
-    }
+    let number = raw::consume(tokens, place, kind, &mut answer);
+    let ours = answered(number, answer);
+    let mut reader = TokenReader::at(tokens, place);
+    let typed = reader.consume(kind).map(|(token, fits)| (token_slots(token), u64::from(fits)));
+    assert_eq!(typed, ours.map(|r| (r[1..10].try_into().expect("nine"), r[10])), "the typed reader's consume");
+    assert_eq!(reader.place() as u64, ours.map_or(place as u64, |r| r[0]), "the typed reader's place");
+    ours
 }
 
 /// The next place, and 1 where the kind is the one asked for.
 pub fn match_kind(tokens: &[u8], place: usize, kind: u8) -> Result<[u64; 2], Refusal> {
     let mut answer = [KEPT; 2];
-    match unsafe { calls::aura_match_kind(tokens.as_ptr(), tokens.len(), place, kind, &mut answer) } {
-        0 => Ok(answer),
-        number => Err(Refusal { number, figure: answer[0] }),
-    }
+    let number = raw::match_kind(tokens, place, kind, &mut answer);
+    let ours = answered(number, answer);
+    let mut reader = TokenReader::at(tokens, place);
+    let typed = reader.match_kind(kind).map(u64::from);
+    assert_eq!(typed, ours.map(|r| r[1]), "the typed reader's match");
+    assert_eq!(reader.place() as u64, ours.map_or(place as u64, |r| r[0]), "the typed reader's place");
+    ours
 }
 
 /// The next place, the kind, the span, the code point.
 pub fn next_error(errors: &[u8], place: usize) -> Result<[u64; 9], Refusal> {
     let mut answer = [KEPT; 9];
-    match unsafe { calls::aura_next_error(errors.as_ptr(), errors.len(), place, &mut answer) } {
-        0 => Ok(answer),
-        number => Err(Refusal { number, figure: answer[0] }),
-    }
+    let number = raw::next_error(errors, place, &mut answer);
+    let ours = answered(number, answer);
+    let typed = aura_lexer::next_error(errors, place).map(|(error, next)| {
+        let [a, b, c, d, e, f] = error.span.fields();
+        [next as u64, u64::from(error.kind.number()), a, b, c, d, e, f, u64::from(error.code.unwrap_or(0))]
+    });
+    assert_eq!(typed, ours, "the typed reader's error");
+    ours
 }
 
 pub fn text_check(script: &[u8], texts: &[u8], tokens: &[u8], place: usize) -> Result<(), Refusal> {
     let mut answer = [KEPT; 1];
-    let number = unsafe {
-        calls::aura_text_check(
-            script.as_ptr(),
-            script.len(),
-            texts.as_ptr(),
-            texts.len(),
-            tokens.as_ptr(),
-            tokens.len(),
-            place,
-            &mut answer,
-        )
-    };
-    if number == 0 {
-        Ok(())
-    } else {
-        Err(Refusal { number, figure: answer[0] })
-    }
+    let number = raw::text_check(script, texts, tokens, place, &mut answer);
+    let ours = answered(number, answer);
+    assert!(number != 0 || answer == [KEPT], "a yes keeps the slot");
+    let text = aura_lexer::token_text(script, texts, tokens, place);
+    assert_eq!(text.map(|_| ()), ours.map(|_| ()), "the typed text");
+    ours.map(|_| ())
 }

@@ -10,6 +10,10 @@ mod replay;
 mod scripts;
 
 #[cfg(oracle)]
+mod kinds;
+#[cfg(oracle)]
+mod listing;
+#[cfg(oracle)]
 mod oracle;
 #[cfg(oracle)]
 mod runs;
@@ -29,6 +33,8 @@ with the original lexer's sources (AURA_SRC names their folder when building):
   random SEED COUNT        random scripts
   mutate SEED COUNT FILE.. damaged copies of files, or of a made script
   large SEED               scripts up to the limit and one byte more
+  kinds                    the names and spellings of the token kinds
+  listing FILE             the original's listing of a script, as the program `tokens` writes it
   store FILE               writes the stored answers";
 
 #[cfg(oracle)]
@@ -41,6 +47,8 @@ fn against_the_original(words: &[&str]) -> Option<bool> {
         ["random", seed, count] => runs::random(number(seed)?, number(count)?),
         ["mutate", seed, count, files @ ..] => runs::mutate(number(seed)?, number(count)?, files),
         ["large", seed] => runs::large(number(seed)?),
+        ["kinds"] => kinds::run(),
+        ["listing", file] => listing::run(file),
         ["store", file] => replay::store(file),
         _ => return None,
     })
@@ -49,7 +57,7 @@ fn against_the_original(words: &[&str]) -> Option<bool> {
 #[cfg(not(oracle))]
 fn against_the_original(words: &[&str]) -> Option<bool> {
     let command = words.first()?;
-    let known = ["table", "archive", "exhaustive", "random", "mutate", "large", "store"];
+    let known = ["table", "archive", "exhaustive", "random", "mutate", "large", "kinds", "listing", "store"];
     known.contains(command).then(|| {
         println!("{command}: skipped: this program was built without the original lexer's sources (set AURA_SRC to their folder)");
         true

@@ -6,7 +6,7 @@ use crate::lexed::{Lexed, Mistake, Token};
 
 const ANSWERS: &str = include_str!("../data/answers.txt");
 
-fn hex(bytes: &[u8]) -> String {
+pub fn hex(bytes: &[u8]) -> String {
     if bytes.is_empty() {
         return "-".to_string();
     }
@@ -96,17 +96,9 @@ pub fn store(file: &str) -> bool {
         let lexed = oracle::lex(&script);
         let closed = check::joins(script.as_bytes(), true, &lexed, |s| Ok(oracle::lex(std::str::from_utf8(s).expect("UTF-8")))).is_ok();
         writeln!(text, "S {}", hex(script.as_bytes())).expect("a string");
-        for t in &lexed.tokens {
-            kinds[t.kind as usize] = true;
-            let [a, b, c, d, e, f] = t.span;
-            writeln!(text, "T {} {a} {b} {c} {d} {e} {f} {}", t.kind, hex(&t.text)).expect("a string");
-        }
-        for m in &lexed.errors {
-            faults[m.kind as usize] = true;
-            let [a, b, c, d, e, f] = m.span;
-            let code = m.code.map(|c| format!(" {c}")).unwrap_or_default();
-            writeln!(text, "E {} {a} {b} {c} {d} {e} {f}{code}", m.kind).expect("a string");
-        }
+        lexed.tokens.iter().for_each(|t| kinds[t.kind as usize] = true);
+        lexed.errors.iter().for_each(|e| faults[e.kind as usize] = true);
+        text += &crate::listing::lines(&lexed);
         text += if closed { "closed\n" } else { "open\n" };
     }
     let missing: Vec<usize> = (0..126).filter(|&k| !kinds[k]).collect();

@@ -11,7 +11,7 @@ fn hex(bytes: &[u8]) -> String {
 }
 
 /// The refusal that questions 1 and 2 ask for, by Rust's own check.
-fn refusal(script: &[u8]) -> Option<Refusal> {
+pub fn refusal(script: &[u8]) -> Option<Refusal> {
     if script.len() > LIMIT {
         return Some(Refusal { number: 1, figure: script.len() as u64 });
     }

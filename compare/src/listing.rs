@@ -1,0 +1,52 @@
+//! The original's listing of a script, in the form of document 01's program `tokens`. The refusals are those of questions 1 and 2 by
+//! Rust's own check; closed or open is demand 3 asked of the original with the seconds of `check`.
+use crate::check::{self, LIMIT};
+use crate::lexed::{Lexed, Span};
+use crate::oracle;
+use crate::replay::hex;
+use crate::runs::refusal;
+
+fn fields(span: Span) -> String {
+    span.map(|n| n.to_string()).join(" ")
+}
+
+/// The T and E lines.
+pub fn lines(lexed: &Lexed) -> String {
+    let mut text = String::new();
+    for t in &lexed.tokens {
+        text += &format!("T {} {} {}\n", t.kind, fields(t.span), hex(&t.text));
+    }
+    for e in &lexed.errors {
+        let code = e.code.map(|c| format!(" {c}")).unwrap_or_default();
+        text += &format!("E {} {}{code}\n", e.kind, fields(e.span));
+    }
+    text
+}
+
+/// Demand 3 with every second; none where one does not fit within the limit.
+pub fn is_closed(script: &str, lexed: &Lexed) -> Option<bool> {
+    let longest = check::SECONDS.iter().map(|s| s.len()).max().expect("there are seconds");
+    if script.len() + 1 + longest > LIMIT {
+        return None;
+    }
+    Some(check::joins(script.as_bytes(), true, lexed, |s| Ok(oracle::lex(std::str::from_utf8(s).expect("UTF-8")))).is_ok())
+}
+
+fn listing(script: &[u8]) -> Result<String, String> {
+    if let Some(r) = refusal(script) {
+        return Ok(format!("refused {} {}\n", r.number, r.figure));
+    }
+    let source = std::str::from_utf8(script).expect("it was checked");
+    let lexed = oracle::lex(source);
+    let closed = is_closed(source, &lexed).ok_or("too near the limit to ask for demand 3")?;
+    Ok(lines(&lexed) + if closed { "closed\n" } else { "open\n" })
+}
+
+pub fn run(file: &str) -> bool {
+    let answer = std::fs::read(file).map_err(|e| e.to_string()).and_then(|script| listing(&script));
+    match answer {
+        Ok(ref text) => print!("{text}"),
+        Err(ref text) => eprintln!("no listing of {file}: {text}"),
+    }
+    answer.is_ok()
+}

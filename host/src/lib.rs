@@ -1,0 +1,88 @@
+//! The proved Aura lexer behind safe functions. `lex` is the whole of it for most hosts; the other functions are the exported calls
+//! one by one, on buffers that the caller lends.
+//!
+//! ```
+//! let lexed = aura_lexer::lex(b"val a=1")?;
+//! let names: Vec<&str> = lexed.tokens().map(|(token, _)| token.kind.name()).collect();
+//! assert_eq!(names, ["Val", "Ident", "Assign", "IntLiteral", "EOF"]);
+//! assert!(lexed.errors().next().is_none() && lexed.used().closed);
+//! # Ok::<(), aura_lexer::Refusal>(())
+//! ```
+
+mod answers;
+mod kinds;
+mod lexed;
+pub mod raw;
+mod reader;
+
+pub use answers::{ErrorKind, LexError, Refusal, Span, Token, Used};
+pub use kinds::TokenKind;
+pub use lexed::{lex, Errors, Lexed, Tokens};
+pub use reader::{next_error, text_check, token_text, TokenReader};
+
+use answers::checked;
+
+/// The longest script, in bytes, its byte-order mark counted.
+pub const LIMIT: usize = 1_048_576;
+
+/// A token buffer of this size is never too small for a script of `n` bytes.
+pub const fn tokens_room(n: usize) -> usize {
+    33 * (n + 1)
+}
+
+/// A text buffer of this size is never too small for a script of `n` bytes.
+pub const fn texts_room(n: usize) -> usize {
+    2 * n + 2
+}
+
+/// An error buffer of this size is never too small for a script of `n` bytes.
+pub const fn errors_room(n: usize) -> usize {
+    29 * n
+}
+
+/// What tokenising a script would answer, with large enough buffers.
+pub fn measure(script: &[u8]) -> Result<Used, Refusal> {
+    let mut answer = [0; 5];
+    let number = raw::measure(script, &mut answer);
+    Used::from_answer(number, answer)
+}
+
+/// Tokenises a script into lent buffers. A refusal changes none of them; bytes beyond those used keep.
+pub fn tokenize(script: &[u8], tokens: &mut [u8], texts: &mut [u8], errors: &mut [u8]) -> Result<Used, Refusal> {
+    let mut answer = [0; 5];
+    let number = raw::tokenize(script, tokens, texts, errors, &mut answer);
+    Used::from_answer(number, answer)
+}
+
+/// Whether a text is UTF-8; the refusal's figure is the first byte of the first bad sequence.
+pub fn first_bad(text: &[u8]) -> Result<(), Refusal> {
+    let mut place = 0;
+    let number = raw::first_bad(text, &mut place);
+    checked(number, place)
+}
+
+/// The bytes of the byte-order mark that a text begins with: 3 or 0.
+pub fn mark_length(text: &[u8]) -> usize {
+    raw::mark_length(text) as usize
+}
+
+/// The text after its byte-order mark, which offsets count from.
+pub fn after_mark(text: &[u8]) -> &[u8] {
+    &text[mark_length(text)..]
+}
+
+pub fn is_white(code: u32) -> bool {
+    raw::is_white(code) != 0
+}
+
+/// Writes a character as UTF-8 at a place of the buffer: the bytes written, or none where the code point is no character or does
+/// not fit; the buffer keeps then.
+pub fn encode_char(code: u32, buffer: &mut [u8], at: usize) -> Option<usize> {
+    match raw::encode_char(code, buffer, at) {
+        0 => None,
+        written => Some(written as usize),
+    }
+}
+
+#[cfg(test)]
+mod tests;

@@ -1,0 +1,107 @@
+//! The exported calls on numbers and slices, without `unsafe` for the caller. Each returns 0 for a yes, else the number of the
+//! refusal; the answer is lent, so that a caller sees which slots were set (`include/aura_lexer.h` says what each one means).
+
+mod calls {
+    extern "C" {
+        pub fn aura_first_bad(text: *const u8, length: usize, place: *mut u64) -> u64;
+        pub fn aura_mark_length(text: *const u8, length: usize) -> u64;
+        pub fn aura_is_white(code: u32) -> u64;
+        pub fn aura_encode_char(code: u32, buffer: *mut u8, length: usize, at: usize) -> u64;
+        pub fn aura_measure(script: *const u8, length: usize, answer: *mut [u64; 5]) -> u64;
+        pub fn aura_tokenize(
+            script: *const u8,
+            script_length: usize,
+            tokens: *mut u8,
+            tokens_length: usize,
+            texts: *mut u8,
+            texts_length: usize,
+            errors: *mut u8,
+            errors_length: usize,
+            answer: *mut [u64; 5],
+        ) -> u64;
+        pub fn aura_next_token(tokens: *const u8, length: usize, place: usize, answer: *mut [u64; 10]) -> u64;
+        pub fn aura_consume(tokens: *const u8, length: usize, place: usize, kind: u8, answer: *mut [u64; 11]) -> u64;
+        pub fn aura_match_kind(tokens: *const u8, length: usize, place: usize, kind: u8, answer: *mut [u64; 2]) -> u64;
+        pub fn aura_next_error(errors: *const u8, length: usize, place: usize, answer: *mut [u64; 9]) -> u64;
+        pub fn aura_text_check(
+            script: *const u8,
+            script_length: usize,
+            texts: *const u8,
+            texts_length: usize,
+            tokens: *const u8,
+            tokens_length: usize,
+            place: usize,
+            answer: *mut [u64; 1],
+        ) -> u64;
+    }
+}
+
+// In every call below the pointers come from references: they are not null, lead to as many bytes as told, and what is written
+// overlaps nothing.
+
+pub fn measure(script: &[u8], answer: &mut [u64; 5]) -> u64 {
+    unsafe { calls::aura_measure(script.as_ptr(), script.len(), answer) }
+}
+
+pub fn tokenize(script: &[u8], tokens: &mut [u8], texts: &mut [u8], errors: &mut [u8], answer: &mut [u64; 5]) -> u64 {
+    unsafe {
+        calls::aura_tokenize(
+            script.as_ptr(),
+            script.len(),
+            tokens.as_mut_ptr(),
+            tokens.len(),
+            texts.as_mut_ptr(),
+            texts.len(),
+            errors.as_mut_ptr(),
+            errors.len(),
+            answer,
+        )
+    }
+}
+
+pub fn next_token(tokens: &[u8], place: usize, answer: &mut [u64; 10]) -> u64 {
+    unsafe { calls::aura_next_token(tokens.as_ptr(), tokens.len(), place, answer) }
+}
+
+pub fn consume(tokens: &[u8], place: usize, kind: u8, answer: &mut [u64; 11]) -> u64 {
+    unsafe { calls::aura_consume(tokens.as_ptr(), tokens.len(), place, kind, answer) }
+}
+
+pub fn match_kind(tokens: &[u8], place: usize, kind: u8, answer: &mut [u64; 2]) -> u64 {
+    unsafe { calls::aura_match_kind(tokens.as_ptr(), tokens.len(), place, kind, answer) }
+}
+
+pub fn next_error(errors: &[u8], place: usize, answer: &mut [u64; 9]) -> u64 {
+    unsafe { calls::aura_next_error(errors.as_ptr(), errors.len(), place, answer) }
+}
+
+pub fn text_check(script: &[u8], texts: &[u8], tokens: &[u8], place: usize, answer: &mut [u64; 1]) -> u64 {
+    unsafe {
+        calls::aura_text_check(
+            script.as_ptr(),
+            script.len(),
+            texts.as_ptr(),
+            texts.len(),
+            tokens.as_ptr(),
+            tokens.len(),
+            place,
+            answer,
+        )
+    }
+}
+
+pub fn first_bad(text: &[u8], place: &mut u64) -> u64 {
+    unsafe { calls::aura_first_bad(text.as_ptr(), text.len(), place) }
+}
+
+pub fn mark_length(text: &[u8]) -> u64 {
+    unsafe { calls::aura_mark_length(text.as_ptr(), text.len()) }
+}
+
+pub fn is_white(code: u32) -> u64 {
+    unsafe { calls::aura_is_white(code) }
+}
+
+pub fn encode_char(code: u32, buffer: &mut [u8], at: usize) -> u64 {
+    unsafe { calls::aura_encode_char(code, buffer.as_mut_ptr(), buffer.len(), at) }
+}
