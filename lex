@@ -13,10 +13,10 @@ stale() {
     [ ! -f "$made" ] || [ -n "$(find "$@" -type f -newer "$made" | head -n 1)" ]
 }
 
-# Runs a tool in a folder; its messages go to standard error.
+# Makes a file by running a tool in a folder; its messages go to standard error. The file counts as new even if it came out the same.
 build() {
-    what=$1 tool=$2 folder=$3
-    shift 3
+    what=$1 made=$2 tool=$3 folder=$4
+    shift 4
     if ! command -v "$tool" > /dev/null; then
         echo "lex: cannot build $what: there is no $tool; install it and put it on the PATH" >&2
         exit 2
@@ -26,6 +26,7 @@ build() {
         echo "lex: $tool $* failed in $folder; its messages stand above" >&2
         exit 2
     fi
+    touch "$made"
 }
 
 for word in "$@"; do
@@ -35,9 +36,9 @@ for word in "$@"; do
     esac
 done
 if stale "$library" "$root"/crates/*/src; then
-    build "the proved lexer" rt "$root" staticlib aura_host
+    build "the proved lexer" "$library" rt "$root" staticlib aura_host
 fi
 if stale "$program" "$library" "$root/host/src" "$root/host/build.rs" "$root/host/Cargo.toml"; then
-    build "the program" cargo "$root/host" build --release --offline --quiet
+    build "the program" "$program" cargo "$root/host" build --release --offline --quiet
 fi
 exec "$program" "$@"

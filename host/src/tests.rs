@@ -106,7 +106,7 @@ fn the_reader_keeps_its_place_when_refused() {
     let (token, fits) = reader.consume(TokenKind::Val).expect("a whole record");
     assert_eq!((token.kind, fits, reader.place()), (TokenKind::Ident, false, 58));
     assert_eq!(reader.next_token().expect("EOF").kind, TokenKind::EOF);
-    assert_eq!(reader.consume(TokenKind::EOF).expect("EOF").1, true);
+    assert!(reader.consume(TokenKind::EOF).expect("EOF").1);
     assert_eq!(reader.place(), 58);
     let mut astray = TokenReader::at(lexed.token_records(), 60);
     assert_eq!(astray.next_token().err(), Some(refusal(7, 60)));
@@ -183,7 +183,7 @@ fn the_kinds_are_those_of_the_header() {
     assert_eq!(ours, header_rows());
     for (i, kind) in TokenKind::all().iter().enumerate() {
         assert_eq!((kind.number() as usize, TokenKind::from_number(i as u64)), (i, Some(*kind)));
-        assert!(kind.spelling().len() <= 9 && !(kind.carries_text() && !kind.spelling().is_empty()));
+        assert!(kind.spelling().len() <= 9 && (!kind.carries_text() || kind.spelling().is_empty()));
     }
     assert_eq!((TokenKind::from_number(126), TokenKind::from_number(u64::MAX)), (None, None));
 }
@@ -202,4 +202,23 @@ fn error_kinds_are_numbered_from_1() {
         assert_eq!((kind.number() as usize, ErrorKind::from_number(i as u64 + 1)), (i + 1, Some(*kind)));
     }
     assert_eq!((ErrorKind::from_number(0), ErrorKind::from_number(11)), (None, None));
+}
+
+/// The README's table rows, without the marks of code.
+fn readme_rows() -> Vec<String> {
+    let readme = include_str!("../../README.md");
+    readme.lines().filter(|line| line.starts_with('|')).map(|line| line.replace('`', "")).collect()
+}
+
+#[test]
+fn the_readme_tells_errors_and_refusals_in_the_same_words() {
+    let rows = readme_rows();
+    for kind in ErrorKind::ALL {
+        let row = format!("| {} | {} | {} |", kind.number(), kind.meaning(), kind.advice());
+        assert!(rows.contains(&row), "the README has no row {row}");
+    }
+    for number in 1..=8 {
+        let (start, end) = (format!("| {number} | "), format!(" | {} |", refusal(number, 0).advice()));
+        assert!(rows.iter().any(|row| row.starts_with(&start) && row.ends_with(&end)), "the README has no row {start}..{end}");
+    }
 }
