@@ -1,7 +1,7 @@
 /* The proved Aura lexer: the calls of the static library libaura_host.a, for C99 and C++.
  *
  * Every call
- *   - answers at once: it keeps no memory, takes no heap, starts nothing, and may run on several threads at a time;
+ *   - keeps no memory of its own, takes no heap and starts nothing, so calls may run on several threads at a time;
  *   - takes a slice as a pointer and a length in bytes.
  *
  * The caller has to see to this, as for any C function:
