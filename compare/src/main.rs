@@ -10,6 +10,10 @@ mod replay;
 mod scripts;
 
 #[cfg(oracle)]
+mod bench;
+#[cfg(oracle)]
+mod imports;
+#[cfg(oracle)]
 mod kinds;
 #[cfg(oracle)]
 mod listing;
@@ -35,7 +39,8 @@ with the original lexer's sources (AURA_SRC names their folder when building):
   large SEED               scripts up to the limit and one byte more
   kinds                    the names and spellings of the token kinds
   listing FILE             the original's listing of a script, as the program `tokens` writes it
-  store FILE               writes the stored answers";
+  store FILE               writes the stored answers
+  bench [DIR | --short]    the speed of both lexers, over a folder too; --short: import scripts only";
 
 #[cfg(oracle)]
 fn against_the_original(words: &[&str]) -> Option<bool> {
@@ -50,6 +55,9 @@ fn against_the_original(words: &[&str]) -> Option<bool> {
         ["kinds"] => kinds::run(),
         ["listing", file] => listing::run(file),
         ["store", file] => replay::store(file),
+        ["bench"] => bench::run(false, None),
+        ["bench", "--short"] => bench::run(true, None),
+        ["bench", folder] => bench::run(false, Some(folder)),
         _ => return None,
     })
 }
@@ -57,7 +65,7 @@ fn against_the_original(words: &[&str]) -> Option<bool> {
 #[cfg(not(oracle))]
 fn against_the_original(words: &[&str]) -> Option<bool> {
     let command = words.first()?;
-    let known = ["table", "archive", "exhaustive", "random", "mutate", "large", "kinds", "listing", "store"];
+    let known = ["table", "archive", "exhaustive", "random", "mutate", "large", "kinds", "listing", "store", "bench"];
     known.contains(command).then(|| {
         println!("{command}: skipped: this program was built without the original lexer's sources (set AURA_SRC to their folder)");
         true

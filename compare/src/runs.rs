@@ -189,7 +189,7 @@ pub fn large(seed: u64) -> bool {
     tally.report("large")
 }
 
-fn files_below(folder: &Path, found: &mut Vec<std::path::PathBuf>) -> std::io::Result<()> {
+pub fn files_below(folder: &Path, found: &mut Vec<std::path::PathBuf>) -> std::io::Result<()> {
     let mut entries: Vec<_> = fs::read_dir(folder)?.collect::<Result<_, _>>()?;
     entries.sort_by_key(|e| e.path());
     for entry in entries {
