@@ -286,7 +286,7 @@ fn archive(folder: &str, buffers: &mut Buffers) -> std::io::Result<Option<Row>> 
     }
     let sizes: Vec<[usize; 3]> = scripts.iter().map(|s| fitting(s.as_bytes())).collect();
     let mut least = [f64::MAX; 3];
-    for _ in 0..=PASSES {
+    for _ in 0..PASSES {
         let mut sums = [0.0; 3];
         for (script, exact) in scripts.iter().zip(&sizes) {
             sums[0] += original(script, 1);
@@ -297,7 +297,7 @@ fn archive(folder: &str, buffers: &mut Buffers) -> std::io::Result<Option<Row>> 
     }
     let [original, largest, fitting] = least;
     let row = Row { name: "archive".to_string(), bytes, original, largest, fitting };
-    heading("archive folder");
+    heading(&format!("archive folder, best of {PASSES} passes"));
     row.print();
     Ok(Some(row))
 }
@@ -367,17 +367,17 @@ fn slower(rows: &[Row]) {
 
 /// The rows behind the realistic ones; none where a folder cannot be read.
 fn others(folder: Option<&str>, buffers: &mut Buffers) -> Option<Vec<Row>> {
-    let mut rows = worst(buffers);
-    match folder {
-        None => println!("\narchive folder: none was given"),
-        Some(folder) => match archive(folder, buffers) {
-            Ok(row) => rows.extend(row),
-            Err(e) => {
-                println!("cannot read {folder}: {e}");
-                return None;
-            }
-        },
+    let mut rows = Vec::new();
+    println!();
+    match folder.map(|folder| (folder, archive(folder, buffers))) {
+        None => println!("archive folder: none was given"),
+        Some((_, Ok(row))) => rows.extend(row),
+        Some((folder, Err(e))) => {
+            println!("cannot read {folder}: {e}");
+            return None;
+        }
     }
+    rows.extend(worst(buffers));
     measure_alone();
     check_alone();
     Some(rows)
