@@ -23,12 +23,11 @@ use Rattle.output.proofs.Buffers.{put-none}
 use Rattle.walks.specs.declared.Skipped.{Skipped}
 use Rattle.walks.specs.Skips.{SkippedAt}
 use Rattle.walks.proofs.Errors.{put-no}
-use Rattle.scanner.specs.Step.{Rest, restOf, restWithin, rest, nothingLeft, andThen, Good, Used, GivesOf, GivenBy, Stepped, Begins, Entered, restOutside}
+use Rattle.scanner.specs.Step.{Rest, restOf, restWithin, rest, nothingLeft, andThen, Good, Used, GivesOf, GivenBy, Stepped, Begins, EnteredBy, Entered, restOutside}
 use Rattle.scanner.specs.Tokens.{endToken, cursorOf, isEnded, Found, FoundBy}
 use Rattle.scanner.specs.declared.Step.{Step}
 use Rattle.scanner.specs.declared.Step.the-variants as step
 use Rattle.scanner.specs.declared.Entry.{Entry}
-use Rattle.scanner.specs.declared.Entry.the-variants as entry
 use Rattle.scanner.specs.declared.Cursor.{Cursor}
 use Rattle.scanner.specs.declared.Token as code
 use Rattle.scanner.specs.declared.Within as W
@@ -242,13 +241,16 @@ module _ (s texts : List ℕ) (ut : ℕ) (errors : List ℕ) (ue : ℕ) (c : Cur
       }
 
 module _ (s : List ℕ) (c : Cursor) (texts : List ℕ) (ut : ℕ) (errors : List ℕ) (ue : ℕ) (texts′ errors′ : List ℕ) where
-  pub entered-known : (x : Step) (y : Entry) → y ≡ entry.Known x → Entered s c texts ut errors ue y texts′ errors′
-      → Stepped s c texts ut errors ue x texts′ errors′
-  entered-known x y e h = subst (λ (z : Entry). Entered s c texts ut errors ue z texts′ errors′) e h
+  pub entered-known : (e : Entry) → e .known ≡ true → Entered s c texts ut errors ue e texts′ errors′
+      → Stepped s c texts ut errors ue (e .step) texts′ errors′
+  entered-known e k h = subst (λ (b : Bool). EnteredBy b s c texts ut errors ue e texts′ errors′) k h
 
-  pub entered-from : (q : Position) (used : ℕ) (y : Entry) → y ≡ entry.From q used → Entered s c texts ut errors ue y texts′ errors′
-      → Begins s c texts ut errors ue q used texts′ errors′
-  entered-from q used y e h = subst (λ (z : Entry). Entered s c texts ut errors ue z texts′ errors′) e h
+  pub entered-begun : (e : Entry) → e .known ≡ false → Entered s c texts ut errors ue e texts′ errors′
+      → Begins s c texts ut errors ue (e .at) (e .errors) texts′ errors′
+  entered-begun e k h = subst (λ (b : Bool). EnteredBy b s c texts ut errors ue e texts′ errors′) k h
+
+  pub entry-is : (e f : Entry) → e ≡ f → Entered s c texts ut errors ue f texts′ errors′ → Entered s c texts ut errors ue e texts′ errors′
+  entry-is e f k h = subst (λ (x : Entry). Entered s c texts ut errors ue x texts′ errors′) (sym k) h
 
 pub stepped-end : (s : List ℕ) (c : Cursor) → c .within ≡ Ended → rest s c ≡ nothingLeft
 unfolding rest restWithin

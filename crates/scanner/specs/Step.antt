@@ -1,6 +1,6 @@
 -- What a scanning step promises.
 use mathlib.Core.Path.{_≡_}
-use mathlib.Core.Bool.{Bool, false, _||_}
+use mathlib.Core.Bool.{Bool, true, false, _||_}
 use mathlib.Core.List.{List, [], _∷_, _++_}
 use Prim.Native.Nat.{ℕ, _+_, _≤_}
 use lib.ListN.{length}
@@ -23,7 +23,6 @@ use Rattle.scanner.specs.declared.Token.{Token}
 use Rattle.scanner.specs.declared.Step.{Step}
 use Rattle.scanner.specs.declared.Step.the-variants as step
 use Rattle.scanner.specs.declared.Entry.{Entry}
-use Rattle.scanner.specs.declared.Entry.the-variants as entry
 
 -- ── What is still to come from a cursor on ──
 
@@ -124,8 +123,18 @@ pub record Begins (s : List ℕ) (c : Cursor) (texts₀ : List ℕ) (usedTexts :
   pub onward : (x : Step) (texts₂ errors₂ : List ℕ) → GivenBy (restOutside s q) s texts₁ usedTexts errors₁ used x texts₂ errors₂
       → Stepped s c texts₀ usedTexts errors₀ usedErrors x texts₂ errors₂
 
+abbrev pub knownEntry : Step → Position → ℕ → Entry
+knownEntry x p used = record { step = x; at = p; errors = used; known = true }
+
+abbrev pub begunEntry : Position → ℕ → Entry
+begunEntry p used = record { step = step.End; at = p; errors = used; known = false }
+
+abbrev pub EnteredBy : Bool → List ℕ → Cursor → List ℕ → ℕ → List ℕ → ℕ → Entry → List ℕ → List ℕ → Type 0
+EnteredBy true s c texts₀ usedTexts errors₀ usedErrors e texts₁ errors₁ =
+    Stepped s c texts₀ usedTexts errors₀ usedErrors (e .step) texts₁ errors₁
+EnteredBy false s c texts₀ usedTexts errors₀ usedErrors e texts₁ errors₁ =
+    Begins s c texts₀ usedTexts errors₀ usedErrors (e .at) (e .errors) texts₁ errors₁
+
 abbrev pub Entered : List ℕ → Cursor → List ℕ → ℕ → List ℕ → ℕ → Entry → List ℕ → List ℕ → Type 0
-Entered s c texts₀ usedTexts errors₀ usedErrors (entry.Known x) texts₁ errors₁ =
-    Stepped s c texts₀ usedTexts errors₀ usedErrors x texts₁ errors₁
-Entered s c texts₀ usedTexts errors₀ usedErrors (entry.From q used) texts₁ errors₁ =
-    Begins s c texts₀ usedTexts errors₀ usedErrors q used texts₁ errors₁
+Entered s c texts₀ usedTexts errors₀ usedErrors e texts₁ errors₁ =
+    EnteredBy (e .known) s c texts₀ usedTexts errors₀ usedErrors e texts₁ errors₁

@@ -39,9 +39,11 @@ pub enum Step {
     End,
 }
 
-// A step that is known already; or the position at which one outside of strings begins, and how many bytes of the errors are used
-// there.
-pub enum Entry {
-    Known(Step),
-    From(Position, usize),
+// Where a step begins: the step itself where it is known already; else the position at which one outside of strings begins, and how
+// many bytes of the errors are used there. It is a struct because a step in an enum's case is copied byte by byte.
+pub struct Entry {
+    pub step: Step,
+    pub at: Position,
+    pub errors: usize,
+    pub known: bool,
 }

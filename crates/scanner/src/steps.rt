@@ -5,7 +5,7 @@ ghost use Rattle.words.specs.Classes.{classTable};
 ghost use Rattle.words.specs.Keywords.{slotTable, keywordTable};
 ghost use Rattle.words.specs.Marks.{markTable};
 ghost use Rattle.words.specs.Words.{Lent};
-ghost use Rattle.scanner.specs.Step.{Good, Used, Roomy, Stepped, Entered};
+ghost use Rattle.scanner.specs.Step.{Good, Used, Roomy, Stepped, knownEntry, begunEntry, Entered};
 ghost use Rattle.scanner.specs.Tokens.{GivenAt};
 use super::Cursor;
 use super::Entry;
@@ -56,6 +56,30 @@ pub fn outside_step(
     )
 }
 
+// A step that is known.
+fn known(step: Step, p: Position, used_errors: usize) -> Entry
+    ensures { λ r. ⌜ r ≡ knownEntry step p «used_errors» ⌝ }
+{
+    Entry {
+        step,
+        at: p,
+        errors: used_errors,
+        known: true,
+    }
+}
+
+// A step that begins at a position outside of strings.
+fn begun(p: Position, used_errors: usize) -> Entry
+    ensures { λ r. ⌜ r ≡ begunEntry p «used_errors» ⌝ }
+{
+    Entry {
+        step: Step::End,
+        at: p,
+        errors: used_errors,
+        known: false,
+    }
+}
+
 // Where a step from a cursor begins: inside a string its next piece is the step, and where the string gives no more, a step behind it
 // is begun.
 fn enter(
@@ -73,7 +97,7 @@ fn enter(
     let p = c.at;
     let within = c.within;
     match within {
-        Within::Outside => Entry::From(p, used_errors),
+        Within::Outside => begun(p, used_errors),
         Within::Inside(offset, line, col) => {
             let start = Position { offset, line, col };
             let x = pieces::piece(
@@ -87,11 +111,11 @@ fn enter(
                 used_errors,
             );
             match x {
-                Piece::Token(g) => Entry::Known(inside::given_step(g)),
-                Piece::Over(q, used) => Entry::From(q, used),
+                Piece::Token(g) => known(inside::given_step(g), p, used_errors),
+                Piece::Over(q, used) => begun(q, used),
             }
         }
-        Within::Ended => Entry::Known(Step::End),
+        Within::Ended => known(Step::End, p, used_errors),
     }
 }
 
@@ -118,21 +142,21 @@ pub fn step(
     ensures { λ r. ⌜ Stepped (now (text .entry)) c (now (texts .entry)) «used_texts» (now (errors .entry)) «used_errors» r (now (texts .exit)) (now (errors .exit)) ⌝ }
 {
     let e = enter(text, c, texts, used_texts, errors, used_errors);
-    match e {
-        Entry::Known(s) => s,
-        Entry::From(p, used) => {
-            outside_step(
-                classes,
-                marks,
-                slots,
-                keywords,
-                text,
-                p,
-                texts,
-                used_texts,
-                errors,
-                used,
-            )
-        }
+    if e.known {
+        return e.step;
     }
+    let p = e.at;
+    let used = e.errors;
+    outside_step(
+        classes,
+        marks,
+        slots,
+        keywords,
+        text,
+        p,
+        texts,
+        used_texts,
+        errors,
+        used,
+    )
 }

@@ -1,0 +1,10 @@
+-- `steps::begun` meets its contract.
+use mathlib.Core.Path.{refl}
+use Rattle.scanner.proofs.steps.begun.Statement.{statement}
+use Rattle.scanner.proofs.steps.begun.Tie as tie
+
+returns : tie.Need-returns
+returns c = refl
+
+pub begun-spec : {M : Type 1} → statement M
+begun-spec = tie.close (tie.spec returns)
