@@ -1,12 +1,12 @@
 -- What walks to a closing mark promise.
 use mathlib.Core.Path.{_≡_}
-use mathlib.Core.Bool.{not}
+use mathlib.Core.Bool.{Bool, _&&_, not}
 use mathlib.Core.List.{List, [], _∷_}
 use Prim.Native.Nat.{ℕ}
-use Rattle.characters.specs.Choice.{if_then_else_}
+use Rattle.characters.specs.Choice.{if_then_else_, _is_, within}
 use Rattle.characters.specs.Utf8.{charsAt}
 use Rattle.spans.specs.declared.Position.{Position}
-use Rattle.rules.specs.Text.{Text, text, LF}
+use Rattle.rules.specs.Text.{Char, Text, text, LF}
 use Rattle.rules.specs.Scan.{upTo}
 use Rattle.bridge.specs.Bridge.{Reach, onward}
 use Rattle.walks.specs.declared.Closing.{Closing}
@@ -23,6 +23,11 @@ brace = text "}"
 
 abbrev pub feed : Text
 feed = LF ∷ []
+
+-- A character of one byte that is neither a line feed nor `stop`, with which a mark begins: the mark does not begin there. (The
+-- control characters before the line feed are such, too, and so are longer characters: they are looked at one by one.)
+unfoldable pub isPlain : Char → Char → Bool
+isPlain stop c = within 11 0x7F c && not (c is stop)
 
 -- From `p` the walk passes what stands before the mark, and says whether the mark was found.
 pub record UpToAt (mark : Text) (s : List ℕ) (p : Position) (c : Closing) : Type 0 where
