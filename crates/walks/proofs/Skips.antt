@@ -1,33 +1,37 @@
 -- White space and comments one after another: nothing is yielded, but the error of a comment that is not closed. Assumes nothing.
-use mathlib.Core.Path.{_≡_, refl, sym, _∙_, ap, subst}
+use mathlib.Core.Path.{_≡_, refl, sym, _∙_, ap, ap₂, subst}
 use mathlib.Core.Bool.{Bool, true, false, not, false≢true}
 use mathlib.Core.List.{List, [], _∷_}
-use Prim.Native.Nat.{ℕ, _≤_, _<_}
+use mathlib.Core.Logic.{inl, inr, ⊎-elim}
+use Prim.Native.Nat.{ℕ, _-_, _≤_, _<_}
 use native.Mathlib.Omega.{arith}
 use borrow.Author.Tests.{eqb-true, eqb-false, eq-eqb, ne-eqb}
-use Rattle.characters.specs.Choice.{_is_}
+use Rattle.characters.specs.Choice.{if_then_else_, _is_}
 use Rattle.characters.specs.Space.{isWhite}
 use Rattle.characters.specs.Utf8.{charsAt}
-use Rattle.characters.proofs.Choice.{if-all}
+use Rattle.characters.proofs.Choice.{if-all, within-bounds}
+use Rattle.characters.proofs.Spaces.{white-alone, white-none}
 use Rattle.spans.specs.declared.Position.{Position}
 use Rattle.rules.specs.Text.{Char, Text, LF}
-use Rattle.rules.specs.Scan.{next}
+use Rattle.rules.specs.Scan.{next, Part, run, takes, nothing}
 use Rattle.rules.specs.Tables.{UnterminatedBlockComment}
 use Rattle.rules.specs.Tokens.{Token, TokenizeError}
 use Rattle.rules.specs.Lexer.{advance, advances, skippedLineColumn, skip, isSpace, tokensOf, Lexed}
 use Rattle.cursor.specs.Cursor.{andThen, left, Yields}
 use Rattle.cursor.specs.declared.Cursor.the-variants.{Outside}
 use Rattle.cursor.proofs.Steps.{skips-white}
-use Rattle.bridge.specs.Bridge.{Within, Reach}
+use Rattle.bridge.specs.Bridge.{Within, Reach, Low, exactly, Cut, onward}
+use Rattle.bridge.proofs.Tests.{low-is, low-within}
 use Rattle.output.specs.Writing.{Put}
 use Rattle.records.specs.Layout.{errorBytes}
 use Rattle.walks.specs.Errors.{unclosed}
 use Rattle.walks.specs.Segments.{segmentAt, errorsAt}
-use Rattle.walks.specs.Skips.{opensLine, opensBlock, isSkipped, WhiteAt, PastComment, SkippedAt}
+use Rattle.walks.specs.Skips.{opensLine, opensBlock, isSkipped, isInk, WhiteAt, PastComment, SkippedAt}
 use Rattle.walks.specs.declared.Closing.{Closing}
 use Rattle.walks.proofs.Errors.{closed-none, put-no, unclosed-size}
 use Rattle.walks.proofs.Segments.{segment-yields}
 use Rattle.walks.proofs.Stops.{stops-here}
+use Rattle.walks.proofs.Walks.{cut-onward}
 
 -- ── The position behind white space ──
 
@@ -103,6 +107,65 @@ gap-white s p q g e = record { yields = g .yields; stops = e; within = g .within
 
 pub white-is-gap : (s : List ℕ) (p q : Position) → WhiteAt s p q → Gap s p q
 white-is-gap s p q w = record { yields = w .yields; within = w .within; forth = w .forth }
+
+-- ── Blanks, and what is plainly no white space ──
+
+pub blank-low : Low 11 (exactly 32)
+blank-low = low-is 11 32 (omega arith) (omega arith)
+
+pub ink-low : Low 1 isInk
+unfolding isInk
+ink-low = low-within 1 0x21 0x7F (omega arith) (omega arith)
+
+ink-white : (c : Char) → isInk c ≡ true → isWhite c ≡ false
+unfolding isInk
+ink-white c e =
+    let b = within-bounds 0x21 0x7F c e in
+    let l = b .0 in
+    let u = b .1 in
+    white-none c
+    (⊎-elim (λ x. omega arith) (⊎-elim (λ x. omega arith) (⊎-elim (λ x. omega arith) (⊎-elim (λ x. omega arith) (⊎-elim (λ x. omega arith)
+    (⊎-elim (λ x. omega arith) (λ x. omega arith)))))))
+    (inr (omega arith)) (inl (omega arith)) (inl (omega arith))
+
+ink-next : (cs : Text) → next isInk cs ≡ true → next isWhite cs ≡ false
+unfolding next
+ink-next [] e = refl
+ink-next (c ∷ cs) e = ink-white c e
+
+-- From `p` nothing is yielded where the part `a` of a text is taken.
+abbrev Passed : Position → Text → Part → Type 0
+Passed p cs a = left (Outside p) cs ≡ left (Outside (advances p (a .taken))) (a .left)
+
+blanks-passed : (p : Position) (cs : Text) → Passed p cs (run (exactly 32) cs)
+unfolding run advances
+blanks-passed p [] = refl
+blanks-passed p (c ∷ cs) = go (c is 32) refl (blanks-passed (advance p c) cs)
+  where
+    go : (b : Bool) → (c is 32) ≡ b → Passed (advance p c) cs (run (exactly 32) cs)
+        → Passed p (c ∷ cs) (if b then takes c (run (exactly 32) cs) else nothing (c ∷ cs))
+    go true e y =
+        let x = eqb-true c 32 e in
+        skips-white p c cs (white-alone c (inl x)) ∙ (ap (λ (q : Position). left (Outside q) cs) (sym (skip-other p c (λ z. omega arith))) ∙ y)
+    go false e y = refl
+
+module _ (s : List ℕ) (f p : Position) (g : Gap s f p) (to : ℕ) (q : Position) (k : Cut s (p .offset) (run (exactly 32) (charsAt s (p .offset))) to)
+    (x : q ≡ onward p (to - p .offset)) where
+  -- Past the blanks at `p`.
+  pub gap-blanks : Gap s f q
+  gap-blanks =
+      let (r, l) = cut-onward s p (run (exactly 32) (charsAt s (p .offset))) to q (g .within) k x in
+      gap-join s f p q g (record {
+        yields = blanks-passed p (charsAt s (p .offset)) ∙ ap₂ (λ (z : Position) (t : Text). left (Outside z) t) (sym (r .moved)) (sym l);
+        within = r .within;
+        forth = omega (arith, k .forth, ap (λ (z : Position). z .offset) x);
+      })
+
+  -- The test `b` says whether what stands behind them is plainly no white space.
+  pub ink-stops : (b : Bool) → b ≡ next isInk (charsAt s to) → b ≡ true → WhiteAt s f q
+  ink-stops b e t =
+      let l = cut-onward s p (run (exactly 32) (charsAt s (p .offset))) to q (g .within) k x .1 in
+      gap-white s f q gap-blanks (ap (next isWhite) (l ∙ sym (k .left)) ∙ ink-next (charsAt s to) (sym e ∙ t))
 
 -- ── Comments ──
 

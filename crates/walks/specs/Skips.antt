@@ -3,10 +3,11 @@ use mathlib.Core.Path.{_≡_}
 use mathlib.Core.Bool.{Bool, true, false, _&&_, not}
 use mathlib.Core.List.{List, [], _∷_}
 use Prim.Native.Nat.{ℕ, _+_, _*_, _-_, _≤_, _<_}
+use Rattle.characters.specs.Choice.{within}
 use Rattle.characters.specs.Space.{isWhite}
 use Rattle.characters.specs.Utf8.{charsAt}
 use Rattle.spans.specs.declared.Position.{Position}
-use Rattle.rules.specs.Text.{Text, text}
+use Rattle.rules.specs.Text.{Char, Text, text}
 use Rattle.rules.specs.Scan.{next, startsWith}
 use Rattle.rules.specs.Tables.{UnterminatedBlockComment}
 use Rattle.rules.specs.Tokens.{TokenizeError}
@@ -50,6 +51,10 @@ isSkippedSort string = false
 unfoldable pub isSkipped : Text → Bool
 isSkipped [] = false
 isSkipped (c ∷ cs) = isSkippedSort (segment (c ∷ cs) .sort)
+
+-- A character of one byte that is no white space. (Control characters and longer characters may be none, too: they are looked at.)
+unfoldable pub isInk : Char → Bool
+isInk c = within 0x21 0x7F c
 
 -- White space from `p` to `q`, behind which there is no more: it yields nothing.
 pub record WhiteAt (s : List ℕ) (p q : Position) : Type 0 where

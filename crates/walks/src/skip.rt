@@ -1,10 +1,12 @@
 // White space and the comments that are skipped.
 ghost use mathlib.Core.Path.{_≡_};
 ghost use Prim.Native.Nat.{_≤_};
+ghost use lib.ListN.{length};
 ghost use Rattle.characters.specs.Utf8.{charsAt};
+ghost use Rattle.rules.specs.Scan.{next, run};
 ghost use Rattle.rules.specs.Lexer as rules;
-ghost use Rattle.bridge.specs.Bridge.{Within};
-ghost use Rattle.walks.specs.Skips.{opensLine, opensBlock, WhiteAt, CommentAt, SkippedAt};
+ghost use Rattle.bridge.specs.Bridge.{Within, Cut, exactly};
+ghost use Rattle.walks.specs.Skips.{isInk, opensLine, opensBlock, WhiteAt, CommentAt, SkippedAt};
 use super::Closing;
 use super::Comment;
 use super::Skipped;
@@ -29,13 +31,42 @@ fn behind_white(p: Position, c: u32, q: Position) -> Position
     q
 }
 
-// Past white space.
+// The end of the blanks at a place.
+fn past_blanks(text: &[u8], from: usize) -> usize
+    requires { ⌜ from ≤ length (now text) ⌝ }
+    ensures { λ r. ⌜ Cut (now (text .entry)) from (run (exactly 32) (charsAt (now (text .entry)) from)) r ⌝ }
+{
+    let mut at = from;
+    while at < text.len() {
+        if text[at] != 32 {
+            return at;
+        }
+        at += 1;
+    }
+    at
+}
+
+// Whether a character of one byte that is no white space stands at a place.
+fn is_ink(text: &[u8], at: usize) -> bool
+    ensures { λ r. ⌜ r ≡ next isInk (charsAt (now (text .entry)) at) ⌝ }
+{
+    let b = characters::utf8::byte_at(text, at);
+    (33 <= b) & (b <= 127)
+}
+
+// Past white space. Blanks are passed together, and what is plainly none is not decoded.
 pub fn skip_white(text: &[u8], p: Position) -> Position
     requires { ⌜ Within (now text) p ⌝ }
     ensures { λ r. ⌜ WhiteAt (now (text .entry)) p r ⌝ }
 {
     let mut at = p;
     loop {
+        let from = at.offset;
+        let to = past_blanks(text, from);
+        at = bridge::along(at, to - from);
+        if is_ink(text, to) {
+            return at;
+        }
         let Ahead::Char(c, q) = bridge::look(text, at) else {
             return at;
         };
@@ -94,8 +125,9 @@ pub fn skip(text: &[u8], p: Position, errors: &mut [u8], used: usize) -> Skipped
     requires { ⌜ used ≤ 1152921504606846976 ⌝ }
     ensures { λ r. ⌜ SkippedAt (now (text .entry)) p (now (errors .entry)) (now (errors .exit)) used r ⌝ }
 {
-    let mut at = skip_white(text, p);
+    let mut at = p;
     loop {
+        at = skip_white(text, at);
         let Comment::Past(c) = comment_at(text, at) else {
             return Skipped {
                 at,
@@ -112,6 +144,6 @@ pub fn skip(text: &[u8], p: Position, errors: &mut [u8], used: usize) -> Skipped
                 ran_out: true,
             };
         }
-        at = skip_white(text, end);
+        at = end;
     }
 }
