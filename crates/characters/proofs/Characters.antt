@@ -8,8 +8,8 @@ use lib.Seq.{drop-nil, drop-drop}
 use native.Mathlib.Omega.{arith}
 use native.Mathlib.Nat.{add-zero}
 use Rattle.characters.specs.Utf8.{firstOf, decodeAt, after, charsPast, charsAt, charsOf, checkAfter, checkPast, firstBad}
+use Rattle.characters.specs.Check.{badFrom}
 use Rattle.characters.specs.declared.Decoded.the-variants.{Code, Bad, End}
-use Rattle.characters.specs.declared.Checked.{Checked}
 use Rattle.characters.specs.declared.Checked.the-variants.{Valid, BadAt}
 use Rattle.characters.proofs.Sequences.{decode-end}
 use Rattle.characters.proofs.Decoding.{first-code, decode-ascii}
@@ -104,10 +104,7 @@ unfolding checkPast checkAfter firstOf
 end-first [] at e = refl
 end-first (a ∷ t) at e = rw e
 
--- The first bad sequence from a place on.
-unfoldable pub badFrom : List ℕ → ℕ → Checked
-badFrom s at = checkPast (drop at s) 0 at
-
+-- From a place on, by what is decoded there.
 pub bad-start : (s : List ℕ) → firstBad s ≡ badFrom s 0
 unfolding badFrom firstBad
 bad-start s = refl

@@ -4,6 +4,7 @@ pub mod Widths
 pub mod Buffers
 pub mod Decoding
 pub mod Characters
+pub mod Check
 pub mod Spaces
 pub mod Rooms
 pub mod Marks

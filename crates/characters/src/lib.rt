@@ -17,6 +17,14 @@ pub enum Checked {
     BadAt(usize),
 }
 
+// How far a part of the check came.
+enum Progress {
+    // No bad sequence up to this place.
+    Reached(usize),
+    // The check's answer.
+    Ended(Checked),
+}
+
 pub enum Encoded {
     // The number of bytes.
     Written(usize),

@@ -1,11 +1,13 @@
 // UTF-8 by RFC 3629: one character at a place of a text, and the first bad sequence of a text.
 ghost use mathlib.Core.Path.{_≡_};
-ghost use Prim.Native.Nat.{_≤_};
-ghost use lib.ListN.{getD, drop};
+ghost use Prim.Native.Nat.{_+_, _≤_};
+ghost use lib.ListN.{length, getD, drop};
 ghost use Rattle.characters.specs.Choice as choice;
 ghost use Rattle.characters.specs.Utf8.{isTail, secondOk, twoOf, threeOf, fourOf, sequence, decodeAt, firstBad, badClass};
+ghost use Rattle.characters.specs.Check.{ascii, Clean, Progressed};
 use super::Checked;
 use super::Decoded;
+use super::Progress;
 
 // The byte at a place, or 0 past the end.
 pub fn byte_at(text: &[u8], at: usize) -> u8
@@ -128,28 +130,91 @@ pub fn decode(text: &[u8], at: usize) -> Decoded
         return Decoded::End;
     }
     let a = text[at];
+    if a <= 0x7F {
+        return Decoded::Code(a as u32, 1);
+    }
     let b = byte_at(text, at + 1);
     let c = byte_at(text, at + 2);
     let d = byte_at(text, at + 3);
     sequence_of(a, b, c, d)
 }
 
-// The first bad sequence of a text, or none.
-pub fn first_bad(text: &[u8]) -> Checked
-    ensures { λ r. ⌜ r ≡ firstBad (now (text .entry)) ⌝ }
+// Whether the sixteen bytes at a place are ASCII. Written out, the comparisons compile to one.
+fn ascii16(text: &[u8], at: usize) -> bool
+    requires { ⌜ at + 16 ≤ length (now text) ⌝ }
+    ensures { λ r. ⌜ r ≡ ascii (now (text .entry)) at 15 ⌝ }
 {
-    let mut at: usize = 0;
-    loop {
+    (text[at] < 128)
+        & (text[at + 1] < 128)
+        & (text[at + 2] < 128)
+        & (text[at + 3] < 128)
+        & (text[at + 4] < 128)
+        & (text[at + 5] < 128)
+        & (text[at + 6] < 128)
+        & (text[at + 7] < 128)
+        & (text[at + 8] < 128)
+        & (text[at + 9] < 128)
+        & (text[at + 10] < 128)
+        & (text[at + 11] < 128)
+        & (text[at + 12] < 128)
+        & (text[at + 13] < 128)
+        & (text[at + 14] < 128)
+        & (text[at + 15] < 128)
+}
+
+// The place behind the blocks of sixteen ASCII bytes from a place on.
+fn past_ascii(text: &[u8], from: usize) -> usize
+    requires { ⌜ from ≤ length (now text) ⌝ }
+    ensures { λ r. ⌜ Clean (now (text .entry)) from r ⌝ }
+{
+    let mut at = from;
+    while at + 16 <= text.len() {
+        if !ascii16(text, at) {
+            return at;
+        }
+        at += 16;
+    }
+    at
+}
+
+// The check of the sequences from a place on, one by one, until `stop` is reached.
+fn past_good(text: &[u8], from: usize, stop: usize) -> Progress
+    requires { ⌜ from ≤ length (now text) ⌝ }
+    ensures { λ r. ⌜ Progressed (now (text .entry)) from stop r ⌝ }
+{
+    let mut at = from;
+    while at < stop {
         let d = decode(text, at);
         match d {
             Decoded::Code(_, n) => {
                 at += n;
             }
             Decoded::Bad => {
-                return Checked::BadAt(at);
+                return Progress::Ended(Checked::BadAt(at));
             }
             Decoded::End => {
-                return Checked::Valid;
+                return Progress::Ended(Checked::Valid);
+            }
+        }
+    }
+    Progress::Reached(at)
+}
+
+// The first bad sequence of a text, or none. Blocks of ASCII bytes are passed whole. Where a block is not such, the sequences of
+// about one block are decoded before blocks are tried again.
+pub fn first_bad(text: &[u8]) -> Checked
+    ensures { λ r. ⌜ r ≡ firstBad (now (text .entry)) ⌝ }
+{
+    let mut at: usize = 0;
+    loop {
+        let from = past_ascii(text, at);
+        let p = past_good(text, from, from + 16);
+        match p {
+            Progress::Reached(to) => {
+                at = to;
+            }
+            Progress::Ended(answer) => {
+                return answer;
             }
         }
     }

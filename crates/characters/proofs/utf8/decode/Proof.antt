@@ -1,6 +1,7 @@
 -- `utf8::decode` meets its contract. Assumes nothing.
 use mathlib.Core.Path.{_∙_, sym}
 use Rattle.characters.proofs.Sequences.{decode-end, decode-seq}
+use Rattle.characters.proofs.Decoding.{decode-ascii}
 use borrow.Author.Needs.{needs}
 use Rattle.characters.proofs.utf8.decode.Statement.{statement}
 use Rattle.characters.proofs.utf8.decode.Tie as tie
@@ -10,6 +11,12 @@ returns c = sym (decode-end _ _ (c .if1 .taken))
 
 shared-slice-read-a : tie.Need-shared-slice-read-a
 shared-slice-read-a c = search needs
+
+cast-t11 : tie.Need-cast-t11
+cast-t11 c = search needs
+
+returns-2 : tie.Need-returns-2
+returns-2 c = sym (decode-ascii _ _ (c .before .before .if1 .left) (c .if2 .taken))
 
 add-byte-at : tie.Need-add-byte-at
 add-byte-at c = search needs
@@ -32,12 +39,12 @@ byte-at-requires-3 c κs = search needs
 sequence-of-requires : tie.Need-sequence-of-requires
 sequence-of-requires c κs = search needs
 
-returns-2 : tie.Need-returns-2
-returns-2 c =
+returns-3 : tie.Need-returns-3
+returns-3 c =
     let b = c .before .before .before .byte-at .ensures in
     let d = c .before .before .byte-at2 .ensures in
     let f = c .before .byte-at3 .ensures in
-    let h = c .before .before .before .before .before .if1 .left in
+    let h = c .before .before .before .before .before .before .if1 .left in
     c .sequence-of .ensures ∙ rw (b, d, f) (sym (decode-seq _ _ h))
 
 pub decode-spec : {M : Type 1} → statement M
@@ -46,6 +53,8 @@ decode-spec =
     (tie.spec
     returns
     shared-slice-read-a
+    cast-t11
+    returns-2
     add-byte-at
     byte-at-requires
     add-byte-at-2
@@ -53,4 +62,4 @@ decode-spec =
     add-byte-at-3
     byte-at-requires-3
     sequence-of-requires
-    returns-2)
+    returns-3)
