@@ -3,6 +3,7 @@
 use mathlib.Core.Path.{_≡_}
 use mathlib.Core.Bool.{Bool, true}
 use mathlib.Core.List.{List, [], _∷_, _++_}
+use mathlib.Core.Logic.{_⊎_}
 use Prim.Native.Nat.{ℕ, _+_, _≤_, _<_}
 use lib.ListN.{length}
 use lib.Seq.{slice}
@@ -40,6 +41,17 @@ pub record Reach (s : List ℕ) (p : Position) (t : Text) (q : Position) : Type 
 abbrev pub NextAt : List ℕ → Position → Ahead → Type 0
 NextAt s p (ahead.Char c q) = Reach s p (c ∷ []) q × (p .offset < q .offset)
 NextAt s p ahead.Nothing = charsAt s (p .offset) ≡ []
+
+-- Past the character at a position, which is beyond ASCII.
+pub record Wide (s : List ℕ) (p q : Position) : Type 0 where
+  pub char : ℕ
+  pub high : 0x80 ≤ char
+  pub reach : Reach s p (char ∷ []) q
+  pub forth : p .offset < q .offset
+
+-- The same where the position stays if no character is left.
+abbrev pub WideAt : List ℕ → Position → Position → Type 0
+WideAt s p q = Wide s p q ⊎ ((q ≡ p) × (charsAt s (p .offset) ≡ []))
 
 -- ── Words: parts of one line, of one-byte characters ──
 

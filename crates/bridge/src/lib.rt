@@ -1,10 +1,11 @@
 // The bridge between the code and the rules: places of the code are bytes, the rules speak of characters.
 ghost use mathlib.Core.Path.{_≡_};
 ghost use Prim.Native.Nat.{_≤_};
+ghost use lib.ListN.{getD};
 ghost use Rattle.characters.specs.Utf8.{width, charsAt};
 ghost use Rattle.rules.specs.Scan.{next};
 ghost use Rattle.rules.specs.Lexer.{advance};
-ghost use Rattle.bridge.specs.Bridge.{Fits, Letter, exactly, onward, Within, NextAt};
+ghost use Rattle.bridge.specs.Bridge.{Fits, Letter, exactly, onward, Within, NextAt, WideAt};
 use characters::Decoded;
 use spans::Position;
 
@@ -65,5 +66,22 @@ pub fn look(text: &[u8], p: Position) -> Ahead
         Decoded::Code(c, n) => Ahead::Char(c, past(p, c, n)),
         Decoded::Bad => Ahead::Nothing,
         Decoded::End => Ahead::Nothing,
+    }
+}
+
+// The position after the character at p, which begins with a byte beyond ASCII; p itself where no character is left.
+pub fn past_wide(text: &[u8], p: Position) -> Position
+    requires { ⌜ Within (now text) p ⌝ }
+    requires { ⌜ 128 ≤ getD (now text) (p .offset) 0 ⌝ }
+    ensures { λ r. ⌜ WideAt (now (text .entry)) p r ⌝ }
+{
+    let n = characters::utf8::width_at(text, p.offset);
+    if n == 0 {
+        return p;
+    }
+    Position {
+        offset: p.offset + n,
+        line: p.line,
+        col: p.col + 1,
     }
 }

@@ -4,7 +4,7 @@ ghost use Prim.Native.Nat.{_+_, _≤_};
 ghost use lib.ListN.{length, getD, drop};
 ghost use Rattle.characters.specs.Choice as choice;
 ghost use Rattle.characters.specs.Utf8.{isTail, secondOk, twoOf, threeOf, fourOf, sequence, decodeAt, firstBad, badClass};
-ghost use Rattle.characters.specs.Check.{ascii, Clean, Progressed};
+ghost use Rattle.characters.specs.Check.{octets, ascii, Clean, Progressed};
 use super::Checked;
 use super::Decoded;
 use super::Progress;
@@ -217,6 +217,18 @@ pub fn first_bad(text: &[u8]) -> Checked
                 return answer;
             }
         }
+    }
+}
+
+// How many bytes the character at a place takes; 0 where none stands there.
+pub fn width_at(text: &[u8], at: usize) -> usize
+    ensures { λ r. ⌜ r ≡ octets (decodeAt (now (text .entry)) at) ⌝ }
+{
+    let d = decode(text, at);
+    match d {
+        Decoded::Code(_, n) => n,
+        Decoded::Bad => 0,
+        Decoded::End => 0,
     }
 }
 
