@@ -90,6 +90,7 @@ static void token_readers(void) {
     CHECK(slots[AURA_NEXT_PLACE] == 25 && slots[AURA_KIND] == AURA_KIND_Val && slots[AURA_CONSUME_FITS] == 0);
     CHECK(aura_consume(tokens, size, 0, AURA_KIND_Val, fresh()) == AURA_YES && slots[AURA_CONSUME_FITS] == 1);
     CHECK(aura_consume(tokens, size, 0, 126, fresh()) == AURA_REFUSED_KIND && slots[AURA_FIGURE] == 126 && keep_from(1));
+    CHECK(aura_consume(tokens, size, 0, 256, fresh()) == AURA_REFUSED_KIND && slots[AURA_FIGURE] == 256 && keep_from(1));
     CHECK(aura_match_kind(tokens, size, 0, AURA_KIND_Var, fresh()) == AURA_YES && keep_from(AURA_MATCH_SLOTS));
     CHECK(slots[AURA_NEXT_PLACE] == 0 && slots[AURA_MATCH_FITS] == 0);
     CHECK(aura_match_kind(tokens, size, 0, AURA_KIND_Val, fresh()) == AURA_YES && slots[AURA_NEXT_PLACE] == 25 && slots[AURA_MATCH_FITS] == 1);

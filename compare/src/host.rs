@@ -79,7 +79,7 @@ pub fn next_token(tokens: &[u8], place: usize) -> Result<[u64; 10], Refusal> {
 /// The next token's values, and 1 where the kind is the one asked for.
 pub fn consume(tokens: &[u8], place: usize, kind: u8) -> Result<[u64; 11], Refusal> {
     let mut answer = [KEPT; 11];
-    let number = raw::consume(tokens, place, kind, &mut answer);
+    let number = raw::consume(tokens, place, kind.into(), &mut answer);
     let ours = answered(number, answer);
     let mut reader = TokenReader::at(tokens, place);
     let typed = reader.consume(kind).map(|(token, fits)| (token_slots(token), u64::from(fits)));
@@ -91,7 +91,7 @@ pub fn consume(tokens: &[u8], place: usize, kind: u8) -> Result<[u64; 11], Refus
 /// The next place, and 1 where the kind is the one asked for.
 pub fn match_kind(tokens: &[u8], place: usize, kind: u8) -> Result<[u64; 2], Refusal> {
     let mut answer = [KEPT; 2];
-    let number = raw::match_kind(tokens, place, kind, &mut answer);
+    let number = raw::match_kind(tokens, place, kind.into(), &mut answer);
     let ours = answered(number, answer);
     let mut reader = TokenReader::at(tokens, place);
     let typed = reader.match_kind(kind).map(u64::from);

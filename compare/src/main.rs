@@ -20,6 +20,8 @@ mod listing;
 #[cfg(oracle)]
 mod oracle;
 #[cfg(oracle)]
+mod readers;
+#[cfg(oracle)]
 mod runs;
 
 include!(concat!(env!("OUT_DIR"), "/original.rs"));
@@ -37,6 +39,7 @@ with the original lexer's sources (AURA_SRC names their folder when building):
   random SEED COUNT        random scripts
   mutate SEED COUNT FILE.. damaged copies of files, or of a made script
   large SEED               scripts up to the limit and one byte more
+  readers SEED COUNT       next, consume and match over random scripts, in random order
   kinds                    the names and spellings of the token kinds
   listing FILE             the original's listing of a script, as the program `tokens` writes it
   store FILE               writes the stored answers
@@ -52,6 +55,7 @@ fn against_the_original(words: &[&str]) -> Option<bool> {
         ["random", seed, count] => runs::random(number(seed)?, number(count)?),
         ["mutate", seed, count, files @ ..] => runs::mutate(number(seed)?, number(count)?, files),
         ["large", seed] => runs::large(number(seed)?),
+        ["readers", seed, count] => readers::run(number(seed)?, number(count)?),
         ["kinds"] => kinds::run(),
         ["listing", file] => listing::run(file),
         ["store", file] => replay::store(file),
@@ -65,7 +69,7 @@ fn against_the_original(words: &[&str]) -> Option<bool> {
 #[cfg(not(oracle))]
 fn against_the_original(words: &[&str]) -> Option<bool> {
     let command = words.first()?;
-    let known = ["table", "archive", "exhaustive", "random", "mutate", "large", "kinds", "listing", "store", "bench"];
+    let known = ["table", "archive", "exhaustive", "random", "mutate", "large", "readers", "kinds", "listing", "store", "bench"];
     known.contains(command).then(|| {
         println!("{command}: skipped: this program was built without the original lexer's sources (set AURA_SRC to their folder)");
         true

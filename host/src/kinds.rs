@@ -188,3 +188,9 @@ impl From<TokenKind> for u8 {
         kind as u8
     }
 }
+
+impl From<TokenKind> for u64 {
+    fn from(kind: TokenKind) -> u64 {
+        u64::from(u8::from(kind))
+    }
+}

@@ -20,8 +20,8 @@ mod calls {
             answer: *mut [u64; 5],
         ) -> u64;
         pub fn aura_next_token(tokens: *const u8, length: usize, place: usize, answer: *mut [u64; 10]) -> u64;
-        pub fn aura_consume(tokens: *const u8, length: usize, place: usize, kind: u8, answer: *mut [u64; 11]) -> u64;
-        pub fn aura_match_kind(tokens: *const u8, length: usize, place: usize, kind: u8, answer: *mut [u64; 2]) -> u64;
+        pub fn aura_consume(tokens: *const u8, length: usize, place: usize, kind: u64, answer: *mut [u64; 11]) -> u64;
+        pub fn aura_match_kind(tokens: *const u8, length: usize, place: usize, kind: u64, answer: *mut [u64; 2]) -> u64;
         pub fn aura_next_error(errors: *const u8, length: usize, place: usize, answer: *mut [u64; 9]) -> u64;
         pub fn aura_text_check(
             script: *const u8,
@@ -63,11 +63,11 @@ pub fn next_token(tokens: &[u8], place: usize, answer: &mut [u64; 10]) -> u64 {
     unsafe { calls::aura_next_token(tokens.as_ptr(), tokens.len(), place, answer) }
 }
 
-pub fn consume(tokens: &[u8], place: usize, kind: u8, answer: &mut [u64; 11]) -> u64 {
+pub fn consume(tokens: &[u8], place: usize, kind: u64, answer: &mut [u64; 11]) -> u64 {
     unsafe { calls::aura_consume(tokens.as_ptr(), tokens.len(), place, kind, answer) }
 }
 
-pub fn match_kind(tokens: &[u8], place: usize, kind: u8, answer: &mut [u64; 2]) -> u64 {
+pub fn match_kind(tokens: &[u8], place: usize, kind: u64, answer: &mut [u64; 2]) -> u64 {
     unsafe { calls::aura_match_kind(tokens.as_ptr(), tokens.len(), place, kind, answer) }
 }
 

@@ -33,7 +33,7 @@ impl<'a> TokenReader<'a> {
     }
 
     /// The token at the place, and whether it is of the kind; the reader moves on either way.
-    pub fn consume(&mut self, kind: impl Into<u8>) -> Result<(Token, bool), Refusal> {
+    pub fn consume(&mut self, kind: impl Into<u64>) -> Result<(Token, bool), Refusal> {
         let mut answer = [0; 11];
         let number = raw::consume(self.tokens, self.place, kind.into(), &mut answer);
         checked(number, answer[0])?;
@@ -42,7 +42,7 @@ impl<'a> TokenReader<'a> {
     }
 
     /// Whether the token at the place is of the kind; the reader moves on only then.
-    pub fn match_kind(&mut self, kind: impl Into<u8>) -> Result<bool, Refusal> {
+    pub fn match_kind(&mut self, kind: impl Into<u64>) -> Result<bool, Refusal> {
         let mut answer = [0; 2];
         let number = raw::match_kind(self.tokens, self.place, kind.into(), &mut answer);
         checked(number, answer[0])?;

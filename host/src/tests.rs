@@ -97,8 +97,8 @@ fn the_limit_is_accepted() {
 fn the_reader_keeps_its_place_when_refused() {
     let lexed = lex(b"val a").expect("accepted");
     let mut reader = lexed.reader();
-    assert_eq!(reader.match_kind(126), Err(refusal(6, 126)));
-    assert_eq!(reader.consume(255u8).err(), Some(refusal(6, 255)));
+    assert_eq!(reader.match_kind(126u8), Err(refusal(6, 126)));
+    assert_eq!(reader.consume(256u64).err(), Some(refusal(6, 256)));
     assert_eq!(reader.match_kind(TokenKind::Var), Ok(false));
     assert_eq!(reader.place(), 0);
     assert_eq!(reader.match_kind(TokenKind::Val), Ok(true));

@@ -154,11 +154,20 @@ pub extern "C" fn aura_text_check<'a>(
 
 // The token record at a place, and whether it is of the kind asked for. It moves on either way.
 #[no_mangle]
-pub extern "C" fn aura_consume(tokens: &[u8], place: usize, kind: u8, answer: &mut [u64; 11]) -> u64
+pub extern "C" fn aura_consume(
+    tokens: &[u8],
+    place: usize,
+    kind: u64,
+    answer: &mut [u64; 11],
+) -> u64
     ensures { λ r. ⌜ r ≡ numberOf (consumeAt (now (tokens .entry)) place kind .answer) ⌝ }
     ensures { λ _. ⌜ now (answer .exit) ≡ slotsAfter (consumedValues (consumeAt (now (tokens .entry)) place kind .place)) (consumeAt (now (tokens .entry)) place kind .answer) (now (answer .entry)) ⌝ }
 {
-    let n = records::read::consume(tokens, place, kind);
+    if 125 < kind {
+        answer[0] = kind;
+        return 6;
+    }
+    let n = records::read::consume(tokens, place, kind as u8);
     match n {
         Consumed::Got(r, fits, at) => {
             let s = r.span;
@@ -190,13 +199,17 @@ pub extern "C" fn aura_consume(tokens: &[u8], place: usize, kind: u8, answer: &m
 pub extern "C" fn aura_match_kind(
     tokens: &[u8],
     place: usize,
-    kind: u8,
+    kind: u64,
     answer: &mut [u64; 2],
 ) -> u64
     ensures { λ r. ⌜ r ≡ numberOf (matchAt (now (tokens .entry)) place kind .answer) ⌝ }
     ensures { λ _. ⌜ now (answer .exit) ≡ slotsAfter (matchedValues (matchAt (now (tokens .entry)) place kind .place)) (matchAt (now (tokens .entry)) place kind .answer) (now (answer .entry)) ⌝ }
 {
-    let n = records::read::match_kind(tokens, place, kind);
+    if 125 < kind {
+        answer[0] = kind;
+        return 6;
+    }
+    let n = records::read::match_kind(tokens, place, kind as u8);
     match n {
         Matched::Got(fits, at) => {
             let same = truth_of(fits);

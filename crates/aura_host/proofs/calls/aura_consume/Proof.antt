@@ -3,8 +3,22 @@ use mathlib.Core.Path.{refl, sym, ap, _∙_}
 use Rattle.aura_host.specs.Calls.{numberOf, slotsAfter, tokenValues, consumedValues}
 use Rattle.records.specs.Answers.{ofConsumed}
 use borrow.Author.Needs.{needs}
+use Rattle.aura_host.proofs.Unknown.{consume-unknown}
 use Rattle.aura_host.proofs.calls.aura_consume.Statement.{statement}
 use Rattle.aura_host.proofs.calls.aura_consume.Tie as tie
+
+element-write-answer : tie.Need-element-write-answer
+element-write-answer c = search needs
+
+-- A kind over 125.
+returns : tie.Need-returns
+unfolding numberOf slotsAfter
+returns c =
+    let a = c .before .before .args in
+    rw (consume-unknown _ (a .place) (a .kind) (c .if1 .taken)) (refl, refl)
+
+cast-consume : tie.Need-cast-consume
+cast-consume c = search needs
 
 consume-requires : tie.Need-consume-requires
 consume-requires c κs = search needs
@@ -15,32 +29,35 @@ enum-known-n c = search needs
 truth-of-requires : tie.Need-truth-of-requires
 truth-of-requires c κs = search needs
 
-cast-t14 : tie.Need-cast-t14
-cast-t14 c = search needs
+cast-t18 : tie.Need-cast-t18
+cast-t18 c = search needs
 
 enum-known-n-2 : tie.Need-enum-known-n-2
 enum-known-n-2 c = search needs
 
-element-write-answer : tie.Need-element-write-answer
-element-write-answer c = search needs
-
-returns : tie.Need-returns
-unfolding numberOf slotsAfter tokenValues consumedValues
-returns c = rw (sym (c .before .before .before .before .before .before .before .consume .ensures) ∙ ap ofConsumed (c .before .before .before .before .before .n .given .1)) (refl, rw (c .before .before .truth-of .ensures))
+element-write-answer-2 : tie.Need-element-write-answer-2
+element-write-answer-2 c = search needs
 
 returns-2 : tie.Need-returns-2
+unfolding numberOf slotsAfter tokenValues consumedValues
+returns-2 c = rw (sym (c .before .before .before .before .before .before .before .consume .ensures) ∙ ap ofConsumed (c .before .before .before .before .before .n .given .1)) (refl, rw (c .before .before .truth-of .ensures))
+
+returns-3 : tie.Need-returns-3
 unfolding numberOf slotsAfter
-returns-2 c = rw (sym (c .before .before .before .consume .ensures) ∙ ap ofConsumed (c .before .n2 .given .1)) (refl, refl)
+returns-3 c = rw (sym (c .before .before .before .consume .ensures) ∙ ap ofConsumed (c .before .n2 .given .1)) (refl, refl)
 
 pub aura-consume-spec : {M : Type 1} → statement M
 aura-consume-spec =
     tie.close
     (tie.spec
+    element-write-answer
+    returns
+    cast-consume
     consume-requires
     enum-known-n
     truth-of-requires
-    cast-t14
+    cast-t18
     enum-known-n-2
-    element-write-answer
-    returns
-    returns-2)
+    element-write-answer-2
+    returns-2
+    returns-3)

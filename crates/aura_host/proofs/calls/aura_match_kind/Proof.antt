@@ -3,8 +3,22 @@ use mathlib.Core.Path.{refl, sym, ap, _∙_}
 use Rattle.aura_host.specs.Calls.{numberOf, slotsAfter, matchedValues}
 use Rattle.records.specs.Answers.{ofMatched}
 use borrow.Author.Needs.{needs}
+use Rattle.aura_host.proofs.Unknown.{match-unknown}
 use Rattle.aura_host.proofs.calls.aura_match_kind.Statement.{statement}
 use Rattle.aura_host.proofs.calls.aura_match_kind.Tie as tie
+
+element-write-answer : tie.Need-element-write-answer
+element-write-answer c = search needs
+
+-- A kind over 125.
+returns : tie.Need-returns
+unfolding numberOf slotsAfter
+returns c =
+    let a = c .before .before .args in
+    rw (match-unknown _ (a .place) (a .kind) (c .if1 .taken)) (refl, refl)
+
+cast-match-kind : tie.Need-cast-match-kind
+cast-match-kind c = search needs
 
 match-kind-requires : tie.Need-match-kind-requires
 match-kind-requires c κs = search needs
@@ -18,25 +32,28 @@ truth-of-requires c κs = search needs
 enum-known-n-2 : tie.Need-enum-known-n-2
 enum-known-n-2 c = search needs
 
-element-write-answer : tie.Need-element-write-answer
-element-write-answer c = search needs
-
-returns : tie.Need-returns
-unfolding numberOf slotsAfter matchedValues
-returns c = rw (sym (c .before .before .before .before .before .match-kind .ensures) ∙ ap ofMatched (c .before .before .before .n .given .1)) (refl, rw (c .before .truth-of .ensures))
+element-write-answer-2 : tie.Need-element-write-answer-2
+element-write-answer-2 c = search needs
 
 returns-2 : tie.Need-returns-2
+unfolding numberOf slotsAfter matchedValues
+returns-2 c = rw (sym (c .before .before .before .before .before .match-kind .ensures) ∙ ap ofMatched (c .before .before .before .n .given .1)) (refl, rw (c .before .truth-of .ensures))
+
+returns-3 : tie.Need-returns-3
 unfolding numberOf slotsAfter
-returns-2 c = rw (sym (c .before .before .before .match-kind .ensures) ∙ ap ofMatched (c .before .n2 .given .1)) (refl, refl)
+returns-3 c = rw (sym (c .before .before .before .match-kind .ensures) ∙ ap ofMatched (c .before .n2 .given .1)) (refl, refl)
 
 pub aura-match-kind-spec : {M : Type 1} → statement M
 aura-match-kind-spec =
     tie.close
     (tie.spec
+    element-write-answer
+    returns
+    cast-match-kind
     match-kind-requires
     enum-known-n
     truth-of-requires
     enum-known-n-2
-    element-write-answer
-    returns
-    returns-2)
+    element-write-answer-2
+    returns-2
+    returns-3)
