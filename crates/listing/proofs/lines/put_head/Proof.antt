@@ -1,0 +1,28 @@
+-- `lines::put_head` meets its contract. Assumes nothing.
+use Rattle.output.proofs.Buffers.{put-then}
+use Rattle.listing.specs.Listing.{headOf}
+use Rattle.listing.proofs.Lengths.{after-field}
+use borrow.Author.Needs.{needs}
+use native.Mathlib.Omega.{arith}
+use Rattle.listing.proofs.lines.put_head.Statement.{statement}
+use Rattle.listing.proofs.lines.put_head.Tie as tie
+
+put-byte-requires : tie.Need-put-byte-requires
+put-byte-requires c κs = search needs
+
+put-field-requires : tie.Need-put-field-requires
+put-field-requires c κs = search needs
+
+put-span-requires : tie.Need-put-span-requires
+put-span-requires c κs = omega (arith, after-field _ _ _ _ _ (c .before .before .before .put-field .ensures))
+
+same-length : tie.Need-same-length
+same-length c = search needs
+
+returns : tie.Need-returns
+unfolding headOf
+returns c = put-then _ _ _ _ _ _ _ _ (put-then _ _ _ _ _ _ _ _ (c .before .before .before .before .before .before .before .before .before .before .put-byte .ensures) (c .before .before .before .before .before .before .put-field .ensures)) (c .before .before .put-span .ensures)
+
+pub put-head-spec : {M : Type 1} → statement M
+put-head-spec =
+    tie.close (tie.spec put-byte-requires put-field-requires put-span-requires same-length returns)

@@ -1,0 +1,43 @@
+-- `put_closed` meets its contract. Assumes nothing.
+use mathlib.Core.Path.{_≡_}
+use Rattle.listing.proofs.Words.{closed-line, open-line}
+use borrow.Author.Needs.{needs}
+use Rattle.listing.proofs.put_closed.Statement.{statement}
+use Rattle.listing.proofs.put_closed.Tie as tie
+
+slice-aggregate-put-part : tie.Need-slice-aggregate-put-part
+slice-aggregate-put-part c = search needs
+
+put-part-requires : tie.Need-put-part-requires
+put-part-requires c κs = search needs
+
+same-length : tie.Need-same-length
+same-length c = search needs
+
+returns : tie.Need-returns
+returns c = rw (← closed-line _ (c .before .before .before .before .before .if1 .taken)) (c .before .before .put-part .ensures)
+
+slice-aggregate-put-part-2 : tie.Need-slice-aggregate-put-part-2
+slice-aggregate-put-part-2 c = search needs
+
+put-part-requires-2 : tie.Need-put-part-requires-2
+put-part-requires-2 c κs = search needs
+
+same-length-2 : tie.Need-same-length-2
+same-length-2 c = search needs
+
+returns-2 : tie.Need-returns-2
+returns-2 c = rw (← open-line _ (c .before .before .before .before .before .if1 .left)) (c .before .before .put-part2 .ensures)
+
+pub put-closed-spec : {M : Type 1} → statement M
+put-closed-spec =
+    tie.close
+    (tie.spec
+    slice-aggregate-put-part
+    put-part-requires
+    same-length
+    returns
+    slice-aggregate-put-part-2
+    put-part-requires-2
+    same-length-2
+    returns-2)

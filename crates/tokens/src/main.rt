@@ -1,0 +1,20 @@
+// Lists the tokens and errors of the script on standard input, which has at most 1,024 bytes (document 01, under "Small scripts").
+ghost use mathlib.Core.Path.{_≡_};
+ghost use lib.ListN.{length};
+ghost use Rattle.listing.specs.Listing.{LONGEST};
+
+// Room for the longest listing. The contract gives only the length.
+fn listing_buffer() -> [u8; 332962]
+    ensures { λ r. ⌜ LONGEST ≡ length r ⌝ }
+{
+    [0; 332962]
+}
+
+// One byte more than 1,024 is read, so that a longer input is told from one that fits.
+fn main() {
+    let mut input = [0u8; 1025];
+    let n = io::read_full(0, &mut input);
+    let mut out = listing_buffer();
+    let k = listing::list(&input[..n], &mut out);
+    io::write_all(1, &out[..k]);
+}
