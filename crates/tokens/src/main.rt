@@ -1,7 +1,8 @@
 // Lists the tokens and errors of the script on standard input, which has at most 1,024 bytes (document 01, under "Small scripts").
 ghost use mathlib.Core.Path.{_≡_};
+ghost use Prim.Native.Nat.{_≤_};
 ghost use lib.ListN.{length};
-ghost use Rattle.listing.specs.Listing.{LONGEST};
+ghost use Rattle.listing.specs.Listing.{listing, LONGEST};
 
 // Room for the longest listing. The contract gives only the length.
 fn listing_buffer() -> [u8; 332962]
@@ -10,11 +11,20 @@ fn listing_buffer() -> [u8; 332962]
     [0; 332962]
 }
 
+// The listing of a script, in a buffer that holds every listing.
+fn listed<'a>(script: &[u8], out: &'a mut [u8]) -> &'a mut [u8]
+    requires { ⌜ LONGEST ≤ length (now out) ⌝ }
+    ensures { λ r. ⌜ now r ≡ listing (now (script .entry)) ⌝ }
+{
+    let k = listing::list(script, out);
+    &mut out[..k]
+}
+
 // One byte more than 1,024 is read, so that a longer input is told from one that fits.
 fn main() {
     let mut input = [0u8; 1025];
     let n = io::read_full(0, &mut input);
     let mut out = listing_buffer();
-    let k = listing::list(&input[..n], &mut out);
-    io::write_all(1, &out[..k]);
+    let lines = listed(&input[..n], &mut out);
+    io::write_all(1, lines);
 }
