@@ -1,12 +1,12 @@
 -- Bytes in hexadecimal, written one after another. Assumes nothing.
-use mathlib.Core.Path.{_≡_, refl, sym, _∙_, ap}
-use mathlib.Core.List.{List, [], _∷_, _++_}
-use Prim.Native.Nat.{ℕ, suc, _+_, _*_, _/_, _%_, _≤_, _<_}
+use mathlib.Core.Path.{_≡_, refl}
+use mathlib.Core.List.{List, [], _∷_}
+use Prim.Native.Nat.{ℕ, _+_, _*_, _/_, _%_, _≤_, _<_}
 use native.Mathlib.Numerals.{add-one}
 use native.Mathlib.Omega.{arith}
 use borrow.Author.Tests.{lt-ltb, le-ltb}
 use lib.ListN.{length, getD, drop, drop-of-length-le}
-use lib.Seq.{slice, drop-cons}
+use lib.Seq.{drop-cons}
 use Rattle.output.specs.Writing.{Put}
 use Rattle.output.proofs.Buffers.{put-then, Writing, write-start, write-more, write-end}
 use Rattle.listing.specs.Numbers.{hexDigit, hexOf}

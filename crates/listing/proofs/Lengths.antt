@@ -1,9 +1,8 @@
 -- How long fields, lines and listings are at most. Assumes nothing.
-use mathlib.Core.Path.{_≡_, refl, sym, _∙_, ap}
-use mathlib.Core.Bool.{Bool, true, false}
-use mathlib.Core.List.{List, [], _∷_, _++_}
+use mathlib.Core.Path.{_≡_, refl}
+use mathlib.Core.List.{List, [], _∷_}
 use mathlib.Core.Option.{Option, none, some}
-use Prim.Native.Nat.{ℕ, zero, suc, _+_, _*_, _/_, _%_, _≤_, _<_, zero-le}
+use Prim.Native.Nat.{ℕ, zero, suc, _+_, _*_, _/_, _%_, _≤_, zero-le}
 use native.Mathlib.Omega.{arith}
 use lib.Dec.{ltb}
 use lib.ListN.{length, take, length-append}
@@ -14,7 +13,7 @@ use Rattle.rules.specs.Tokens.{Token, TokenizeError}
 use Rattle.output.specs.Writing.{Put}
 use Rattle.lexer.specs.declared.Used.{Used}
 use Rattle.listing.specs.Numbers.{decimalIn, decimal, hexOf}
-use Rattle.listing.specs.Listing.{ending, field, spanFields, textField, codeField, headOf, tokenLine, tokenLines, errorLine, errorLines, closedLine, refusedLine}
+use Rattle.listing.specs.Listing.{field, spanFields, textField, codeField, headOf, tokenLine, errorLine, closedLine}
 use Rattle.listing.specs.Reading.{tokensRead, errorsRead, linesRead}
 
 decimal-short : (k n : ℕ) → length (decimalIn k n) ≤ k

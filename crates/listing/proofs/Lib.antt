@@ -4,3 +4,4 @@ pub mod Hex
 pub mod Words
 pub mod Turns
 pub mod Whole
+pub mod Sample

@@ -1,24 +1,22 @@
 -- The loops over records: a turn of the reader writes a line, and what is still to be written completes the whole. Assumes nothing.
-use mathlib.Core.Path.{_≡_, refl, sym, _∙_, ap}
-use mathlib.Core.Bool.{Bool, true, false}
-use mathlib.Core.List.{List, [], _∷_, _++_}
+use mathlib.Core.Path.{_≡_, refl}
+use mathlib.Core.List.{List, [], _++_}
 use Prim.Native.Nat.{ℕ, zero, suc, _+_, _-_, _≤_, _<_}
 use native.Mathlib.Omega.{arith}
 use borrow.Author.Tests.{eq-eqb, ne-eqb}
 use lib.ListN.{length, length-append}
 use Rattle.characters.specs.Choice.{if_then_else_, _is_}
 use Rattle.output.specs.Writing.{Put}
-use Rattle.output.proofs.Buffers.{Writing, write-start, write-more, write-last, write-end}
-use Rattle.rules.specs.Tokens.{Token, TokenizeError}
+use Rattle.output.proofs.Buffers.{Writing, write-start, write-more, write-end}
 use Rattle.records.specs.Kinds.{EOF}
-use Rattle.records.specs.Answers.{Answer, got, refused, Turn}
+use Rattle.records.specs.Answers.{Answer, got, refused}
 use Rattle.records.specs.Reading.{nextAt, nextErrorAt}
 use Rattle.records.specs.Texts.{textCheckAt, textAt}
-use Rattle.records.specs.Lists.{wordOf, tokenTurn, tokensFrom, errorOf, errorTurn, errorsFrom}
+use Rattle.records.specs.Lists.{tokenTurn, tokensFrom, errorOf, errorTurn, errorsFrom}
 use Rattle.records.specs.declared.answers.TokenRecord.{TokenRecord}
 use Rattle.records.specs.declared.answers.ErrorRecord.{ErrorRecord}
-use Rattle.listing.specs.Listing.{tokenLine, tokenLines, errorLine, errorLines}
-use Rattle.listing.specs.Reading.{token, recordLine, tokensRead, errorsRead}
+use Rattle.listing.specs.Listing.{tokenLines, errorLine, errorLines}
+use Rattle.listing.specs.Reading.{recordLine, tokensRead, errorsRead}
 
 -- ── Errors ──
 

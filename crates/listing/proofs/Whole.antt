@@ -9,7 +9,6 @@ use native.Mathlib.Omega.{arith}
 use borrow.Author.Tests.{leb-true, le-leb, lt-leb}
 use lib.Dec.{leb}
 use lib.ListN.{length, take, drop, length-append}
-use Rattle.characters.specs.Choice.{if_then_else_}
 use Rattle.characters.specs.Utf8.{firstBad, badClass}
 use Rattle.characters.specs.declared.Checked.{Checked}
 use Rattle.characters.specs.declared.Checked.the-variants.{Valid, BadAt}
@@ -31,7 +30,7 @@ use Rattle.lexer.specs.Run.{mostTokens, mostTexts, mostErrors}
 use Rattle.lexer.proofs.Totals.{few-tokens, few-texts, few-errors}
 use Rattle.lexer.proofs.Questions.{text-valid, text-bad, yes-accepted, room-yes}
 use Rattle.lexer.proofs.Back.{measure-says, measure-same, answers, tokens-read, errors-read}
-use Rattle.listing.specs.Listing.{ending, field, tokenLine, tokenLines, errorLine, errorLines, closedLine, refusedLine, answerLines, listing, LONGEST}
+use Rattle.listing.specs.Listing.{ending, tokenLine, tokenLines, errorLine, errorLines, closedLine, refusedLine, answerLines, listing, LONGEST}
 use Rattle.listing.specs.Reading.{tokensRead, errorsRead, linesRead}
 use Rattle.listing.proofs.Lengths.{field-short, token-length, error-short}
 

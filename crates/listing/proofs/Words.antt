@@ -1,14 +1,13 @@
 -- The words of a line: spellings, texts of records, code points, and the fixed lines. Assumes nothing.
-use mathlib.Core.Path.{_≡_, refl, sym, _∙_, ap}
+use mathlib.Core.Path.{_≡_, refl}
 use mathlib.Core.Bool.{Bool, true, false, _&&_}
 use mathlib.Core.List.{List, [], _∷_, _++_, append-nil}
-use Prim.Native.Nat.{ℕ, zero, suc, _+_, _*_, _-_, _≤_, _<_, zero-le}
+use Prim.Native.Nat.{ℕ, zero, suc, _+_, _*_, _-_, _≤_, zero-le}
 use native.Mathlib.Omega.{arith}
 use borrow.Author.Tests.{leb-true}
 use lib.Dec.{leb}
-use lib.ListN.{length, getD, take, drop, replicate, length-append}
+use lib.ListN.{length, getD, take, drop, replicate}
 use lib.Seq.{take-append-seam}
-use Rattle.characters.specs.Choice.{if_then_else_}
 use Rattle.characters.proofs.Choice.{and-both}
 use Rattle.output.specs.Writing.{Put}
 use Rattle.records.specs.Kinds.{hasText, hasCode}

@@ -3,7 +3,6 @@ use Prim.Native.Nat.{ℕ, zero, suc, _+_, _/_, _%_}
 use mathlib.Core.List.{List, [], _∷_, _++_}
 use lib.Dec.{ltb}
 use Rattle.characters.specs.Choice.{if_then_else_}
-use Rattle.records.specs.Spelling.{ascii}
 
 -- The decimal digits of a number that has at most so many.
 unfoldable pub decimalIn : ℕ → ℕ → List ℕ

@@ -1,6 +1,6 @@
 // The listing of a script of at most 1,024 bytes: its tokens, its errors, and closed or open.
 ghost use mathlib.Core.Path.{_≡_};
-ghost use Prim.Native.Nat.{_+_, _≤_};
+ghost use Prim.Native.Nat.{_≤_};
 ghost use lib.ListN.{length};
 ghost use Rattle.output.specs.Writing.{Put};
 ghost use Rattle.listing.specs.Listing.{listing, LONGEST, closedLine, refusedLine};

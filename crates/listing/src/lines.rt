@@ -1,6 +1,5 @@
 // The lines of tokens and errors, read back from their records.
-ghost use mathlib.Core.Path.{_≡_};
-ghost use Prim.Native.Nat.{_+_, _*_, _≤_, _<_};
+ghost use Prim.Native.Nat.{_+_, _*_, _≤_};
 ghost use lib.ListN.{length};
 ghost use Rattle.output.specs.Writing.{Put};
 ghost use Rattle.records.specs.Lists.{errorOf};

@@ -1,6 +1,5 @@
 -- `put_answer` meets its contract. Assumes nothing.
 use mathlib.Core.Path.{sym}
--- `put_answer` meets its contract. Assumes nothing.
 use Rattle.output.proofs.Buffers.{put-then}
 use lib.Seq.{length-take-le}
 use Rattle.listing.specs.Reading.{linesRead}

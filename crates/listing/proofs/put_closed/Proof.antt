@@ -1,5 +1,4 @@
 -- `put_closed` meets its contract. Assumes nothing.
-use mathlib.Core.Path.{_≡_}
 use Rattle.listing.proofs.Words.{closed-line, open-line}
 use borrow.Author.Needs.{needs}
 use Rattle.listing.proofs.put_closed.Statement.{statement}

@@ -1,5 +1,4 @@
 -- `fields::put_field` meets its contract. Assumes nothing.
-use mathlib.Core.Path.{_≡_, refl}
 use Rattle.listing.proofs.Decimals.{few-digits, field-put}
 use borrow.Author.Needs.{needs}
 use native.Mathlib.Omega.{arith}

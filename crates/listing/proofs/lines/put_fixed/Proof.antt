@@ -1,8 +1,5 @@
 -- `lines::put_fixed` meets its contract. Assumes nothing.
 use Rattle.listing.proofs.Words.{row-end, row-word, row-room}
--- `lines::put_fixed` meets its contract. Assumes nothing.
-use mathlib.Core.Path.{ap}
-use Rattle.listing.proofs.Words.{row-first, row-end, row-word, spelling-short}
 use borrow.Author.Needs.{needs}
 use native.Mathlib.Omega.{arith}
 use Rattle.listing.proofs.lines.put_fixed.Statement.{statement}
