@@ -19,7 +19,7 @@ hex-low d h = rw (lt-ltb d 10 h)
 
 pub hex-high : (d : ℕ) → 10 ≤ d → 87 + d ≡ hexDigit d
 unfolding hexDigit
-hex-high d h = rw (le-ltb d 10 h)
+hex-high d h = rw (le-ltb d 10 h) (omega arith)
 
 pub two-put : (a b c : List ℕ) (at m r x y u v : ℕ) → x ≡ u → y ≡ v → Put a b at (x ∷ []) m → Put b c m (y ∷ []) r
     → Put a c at (u ∷ v ∷ []) r

@@ -8,6 +8,7 @@ use lib.Dec.{leb}
 use lib.ListN.{length}
 use Rattle.characters.specs.Choice.{if_then_else_}
 use Rattle.spans.specs.declared.Span.{Span}
+use Rattle.rules.specs.Text.{ch, LF}
 use Rattle.rules.specs.Tokens.{Token, TokenizeError}
 use Rattle.rules.specs.Script.{scriptTokens, scriptErrors, scriptClosed}
 use Rattle.records.specs.Spelling.{ascii}
@@ -18,12 +19,12 @@ use Rattle.listing.specs.Numbers.{decimal, hexOf}
 
 -- The line feed that ends each line.
 abbrev pub ending : List ℕ
-ending = 10 ∷ []
+ending = LF ∷ []
 
 -- ── Fields, each after a space ──
 
 unfoldable pub field : ℕ → List ℕ
-field n = 32 ∷ decimal n
+field n = ascii " " ++ decimal n
 
 -- "six span fields", in the order of the records.
 unfoldable pub spanFields : Span → List ℕ
@@ -33,7 +34,7 @@ spanFields s =
 -- "text (a fixed spelling too) in hexadecimal, or `-` where it is empty"
 unfoldable pub textField : List ℕ → List ℕ
 textField [] = ascii " -"
-textField (b ∷ bs) = 32 ∷ hexOf (b ∷ bs)
+textField (b ∷ bs) = ascii " " ++ hexOf (b ∷ bs)
 
 -- "code point if any"
 unfoldable pub codeField : Option ℕ → List ℕ
@@ -47,14 +48,14 @@ unfoldable pub headOf : ℕ → ℕ → Span → List ℕ
 headOf letter kind span = letter ∷ field kind ++ spanFields span
 
 unfoldable pub tokenLine : Token → List ℕ
-tokenLine t = headOf 84 (t .kind) (t .span) ++ textField (t .text) ++ ending
+tokenLine t = headOf (ch "T") (t .kind) (t .span) ++ textField (t .text) ++ ending
 
 unfoldable pub tokenLines : List Token → List ℕ
 tokenLines [] = []
 tokenLines (t ∷ ts) = tokenLine t ++ tokenLines ts
 
 unfoldable pub errorLine : TokenizeError → List ℕ
-errorLine e = headOf 69 (e .kind) (e .span) ++ codeField (e .char) ++ ending
+errorLine e = headOf (ch "E") (e .kind) (e .span) ++ codeField (e .char) ++ ending
 
 unfoldable pub errorLines : List TokenizeError → List ℕ
 errorLines [] = []

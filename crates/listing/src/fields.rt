@@ -1,4 +1,4 @@
-// Fields of a line, each after a space.
+// Fields of a line, each after a space. The bounds on places keep each sum below 2^64; `list` stays far below them.
 ghost use mathlib.Core.Path.{_≡_};
 ghost use mathlib.Core.List.{[], _∷_};
 ghost use Prim.Native.Nat.{_+_, _*_, _/_, _%_, _≤_, _<_};

@@ -1,4 +1,4 @@
-// The lines of tokens and errors, read back from their records.
+// The lines of tokens and errors, read back from their records. The bounds are those of fields.rt, with room for what follows.
 ghost use Prim.Native.Nat.{_+_, _*_, _≤_};
 ghost use lib.ListN.{length};
 ghost use Rattle.output.specs.Writing.{Put};
