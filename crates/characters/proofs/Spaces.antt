@@ -8,7 +8,7 @@ use native.Mathlib.Omega.{arith}
 use native.Mathlib.Nat.{eq-or-lt-of-le}
 use Rattle.characters.specs.Choice.{within}
 use Rattle.characters.specs.Space.{isWhite}
-use Rattle.characters.proofs.Choice.{within-yes, within-below, within-above}
+use Rattle.characters.proofs.Choice.{within-yes, within-below, within-above, within-bounds}
 
 -- The numbers of the match that stand alone.
 abbrev pub Alone : ℕ → Type 0
@@ -62,3 +62,14 @@ white-none c s a b d =
       ne-eqb c 0x205F (λ x. s (inr (inr (inr (inr (inr (inl x))))))),
       ne-eqb c 0x3000 (λ x. s (inr (inr (inr (inr (inr (inr x))))))),
     )
+
+-- No ASCII character from 21 on is white space.
+pub white-ink : (c : ℕ) → within 0x21 0x7F c ≡ true → isWhite c ≡ false
+white-ink c e =
+    let b = within-bounds 0x21 0x7F c e in
+    let l = b .0 in
+    let u = b .1 in
+    white-none c
+    (⊎-elim (λ x. omega arith) (⊎-elim (λ x. omega arith) (⊎-elim (λ x. omega arith) (⊎-elim (λ x. omega arith) (⊎-elim (λ x. omega arith)
+    (⊎-elim (λ x. omega arith) (λ x. omega arith)))))))
+    (inr (omega arith)) (inl (omega arith)) (inl (omega arith))

@@ -3,3 +3,4 @@ pub mod Joining
 pub mod Places
 pub mod Cleaning
 pub mod Parts
+pub mod Inks

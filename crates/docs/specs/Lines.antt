@@ -1,12 +1,13 @@
 -- What the functions of the doc comments' cleaner answer. `s` is the part of a script between a comment's marks; places are bytes
 -- of it.
 use mathlib.Core.Path.{_≡_}
-use mathlib.Core.Bool.{Bool, false, _&&_, not}
+use mathlib.Core.Bool.{Bool, true, false, _&&_, not}
 use mathlib.Core.List.{List, [], _∷_, _++_}
 use Prim.Native.Nat.{ℕ, _+_, _≤_, _<_}
-use lib.ListN.{length, replicate}
+use lib.Dec.{leb}
+use lib.ListN.{length, replicate, getD}
 use lib.Seq.{slice}
-use Rattle.characters.specs.Choice.{if_then_else_, _is_}
+use Rattle.characters.specs.Choice.{if_then_else_, _is_, within}
 use Rattle.characters.specs.Space.{isWhite}
 use Rattle.characters.specs.Utf8.{width, charsAt, encode}
 use Rattle.rules.specs.Text.{Char, Text, ch, LF, isEmpty}
@@ -45,6 +46,26 @@ inLine split c = not (split && c is LF)
 -- White space of a line.
 unfoldable pub isBlank : Bool → Char → Bool
 isBlank split c = isWhite c && inLine split c
+
+-- An ASCII character that is no white space.
+unfoldable pub isInk : Char → Bool
+isInk c = within 0x21 0x7F c
+
+-- From one place to another, past such characters, up to the first other one.
+pub record Inked (s : List ℕ) (from to : ℕ) : Type 0 where
+  pub forth : from ≤ to
+  pub inside : to ≤ length s
+  pub ink : (i : ℕ) → from ≤ i → i < to → isInk (getD s i 0) ≡ true
+  pub stop : to < length s → isInk (getD s to 0) ≡ false
+
+-- No white space of a line stands at a place: the part ends there, or such a character stands there, or a line feed that ends the
+-- line.
+unfoldable pub stopsAt : Bool → List ℕ → ℕ → Bool
+stopsAt split s at =
+    if leb (length s) at then true
+    else if isInk (getD s at 0) then true
+    else if split then (getD s at 0 is LF)
+    else false
 
 -- The line from a place on, made clean: the bytes that make it up, and where the next line begins.
 pub record LineAt (clean : Text → Text) (split : Bool) (s : List ℕ) (at : ℕ) (l : Line) : Type 0 where

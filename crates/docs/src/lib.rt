@@ -3,6 +3,7 @@
 ghost use mathlib.Core.Path.{_≡_};
 ghost use mathlib.Core.Bool.{true, not};
 ghost use Prim.Native.Nat.{_+_, _≤_};
+ghost use lib.Dec.{ltb};
 ghost use lib.ListN.{length, replicate};
 ghost use lib.Seq.{slice};
 ghost use Rattle.characters.specs.Choice.{if_then_else_, _is_};
@@ -10,7 +11,7 @@ ghost use Rattle.characters.specs.Space.{isWhite};
 ghost use Rattle.characters.specs.Utf8.{charsOf};
 ghost use Rattle.rules.specs.Docs.{trim, trimEnd, cleanLine, cleanDoc};
 ghost use Rattle.output.specs.Writing.{Put};
-ghost use Rattle.docs.specs.Lines.{NextAt, Skipped, inLine, isStar, isBlank, LineAt, lineText, feedsAfter, Written};
+ghost use Rattle.docs.specs.Lines.{NextAt, Skipped, inLine, isStar, isBlank, isInk, Inked, stopsAt, LineAt, lineText, feedsAfter, Written};
 use characters::Decoded;
 use characters::space;
 use characters::utf8;
@@ -65,6 +66,42 @@ fn is_blank(split: bool, c: u32) -> bool
     space::is_white(c)
 }
 
+// An ASCII character that is no white space.
+fn is_ink(b: u8) -> bool
+    ensures { λ r. ⌜ r ≡ isInk b ⌝ }
+{
+    utf8::within(0x21, 0x7F, b)
+}
+
+// Past such characters.
+fn past_ink(part: &[u8], from: usize) -> usize
+    requires { ⌜ from ≤ length (now part) ⌝ }
+    ensures { λ r. ⌜ Inked (now (part .entry)) from r ⌝ }
+{
+    let mut at = from;
+    while at < part.len() {
+        if !is_ink(part[at]) {
+            return at;
+        }
+        at += 1;
+    }
+    at
+}
+
+// Whether no white space of a line stands at a place, as its first byte tells.
+fn stops(part: &[u8], at: usize, split: bool) -> bool
+    ensures { λ r. ⌜ r ≡ stopsAt split (now (part .entry)) at ⌝ }
+{
+    if part.len() <= at {
+        return true;
+    }
+    let b = part[at];
+    if is_ink(b) {
+        return true;
+    }
+    if split { b == 10 } else { false }
+}
+
 // Past the white space of a line.
 fn past_blanks(part: &[u8], from: usize, split: bool) -> usize
     requires { ⌜ from ≤ length (now part) ⌝ }
@@ -72,6 +109,9 @@ fn past_blanks(part: &[u8], from: usize, split: bool) -> usize
 {
     let mut at = from;
     loop {
+        if stops(part, at, split) {
+            return at;
+        }
         let n = char_at(part, at);
         let Next::Char(c, next) = n else {
             return at;
@@ -108,6 +148,13 @@ fn kept_end(c: u32, to: usize, next: usize) -> usize
     if space::is_white(c) { to } else { next }
 }
 
+// Where the text ends that is kept, behind ASCII characters from `at` to `q` that are no white space.
+fn ink_end(at: usize, q: usize, to: usize) -> usize
+    ensures { λ r. ⌜ r ≡ (if ltb at q then q else to) ⌝ }
+{
+    if at < q { q } else { to }
+}
+
 // The line from a place on, without white space at its end.
 fn trimmed_line(part: &[u8], from: usize, split: bool) -> Line
     requires { ⌜ from ≤ length (now part) ⌝ }
@@ -116,24 +163,26 @@ fn trimmed_line(part: &[u8], from: usize, split: bool) -> Line
     let mut at = from;
     let mut to = from;
     loop {
-        let n = char_at(part, at);
+        let q = past_ink(part, at);
+        let end = ink_end(at, q, to);
+        let n = char_at(part, q);
         let Next::Char(c, next) = n else {
             return Line {
                 from,
-                to,
-                next: at,
+                to: end,
+                next: q,
                 last: true,
             };
         };
         if ends_line(split, c) {
             return Line {
                 from,
-                to,
+                to: end,
                 next,
                 last: false,
             };
         }
-        to = kept_end(c, to, next);
+        to = kept_end(c, end, next);
         at = next;
     }
 }

@@ -10,7 +10,7 @@ use Rattle.characters.specs.Choice.{if_then_else_, _is_}
 use Rattle.characters.specs.Space.{isWhite}
 use Rattle.characters.specs.Utf8.{charsAt}
 use Rattle.characters.proofs.Choice.{if-all, within-bounds}
-use Rattle.characters.proofs.Spaces.{white-alone, white-none}
+use Rattle.characters.proofs.Spaces.{white-alone, white-ink}
 use Rattle.spans.specs.declared.Position.{Position}
 use Rattle.rules.specs.Text.{Char, Text, LF}
 use Rattle.rules.specs.Scan.{next, Part, run, takes, nothing}
@@ -119,14 +119,7 @@ ink-low = low-within 1 0x21 0x7F (omega arith) (omega arith)
 
 ink-white : (c : Char) → isInk c ≡ true → isWhite c ≡ false
 unfolding isInk
-ink-white c e =
-    let b = within-bounds 0x21 0x7F c e in
-    let l = b .0 in
-    let u = b .1 in
-    white-none c
-    (⊎-elim (λ x. omega arith) (⊎-elim (λ x. omega arith) (⊎-elim (λ x. omega arith) (⊎-elim (λ x. omega arith) (⊎-elim (λ x. omega arith)
-    (⊎-elim (λ x. omega arith) (λ x. omega arith)))))))
-    (inr (omega arith)) (inl (omega arith)) (inl (omega arith))
+ink-white c e = white-ink c e
 
 ink-next : (cs : Text) → next isInk cs ≡ true → next isWhite cs ≡ false
 unfolding next
