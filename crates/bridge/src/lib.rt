@@ -79,9 +79,11 @@ pub fn past_wide(text: &[u8], p: Position) -> Position
     if n == 0 {
         return p;
     }
+    let offset = p.offset + n;
+    let col = p.col + 1;
     Position {
-        offset: p.offset + n,
+        offset,
         line: p.line,
-        col: p.col + 1,
+        col,
     }
 }

@@ -15,14 +15,14 @@ returns c =
     let s = c .before .before .before in
     inr (refl, wide-none _ (s .args .p) (s .pre .0) _ (c .before .width-at .ensures) (c .if1 .taken))
 
-add-t5 : tie.Need-add-t5
-add-t5 c =
+add-offset : tie.Need-add-offset
+add-offset c =
     let s = c .before .before .before .before in
     let w = wide-some _ (s .args .p) (s .pre .0) (s .pre .1) _ (c .before .before .width-at .ensures) (c .before .if1 .left) in
     omega (arith, w .reach .within .inside, w .reach .within .size)
 
-add-t6 : tie.Need-add-t6
-add-t6 c =
+add-col : tie.Need-add-col
+add-col c =
     let w = c .before .before .before .before .before .pre .0 in
     omega (arith, w .columns, w .inside, w .size)
 
@@ -32,4 +32,4 @@ returns-2 c =
     inl (wide-some _ (s .args .p) (s .pre .0) (s .pre .1) _ (c .before .before .before .width-at .ensures) (c .before .before .if1 .left))
 
 pub past-wide-spec : {M : Type 1} → statement M
-past-wide-spec = tie.close (tie.spec width-at-requires returns add-t5 add-t6 returns-2)
+past-wide-spec = tie.close (tie.spec width-at-requires returns add-offset add-col returns-2)
