@@ -1,17 +1,19 @@
 -- Laws of the letters of escapes. Assumes nothing.
-use mathlib.Core.Path.{_≡_, refl, _∙_}
-use mathlib.Core.Bool.{true, false, false≢true}
+use mathlib.Core.Path.{_≡_, refl, sym, _∙_, ap}
+use mathlib.Core.Bool.{Bool, true, false, not, false≢true}
 use mathlib.Core.List.{List, [], _∷_, map}
 use mathlib.Core.Logic.{⊎-elim}
-use mathlib.Core.Option.{none}
-use Prim.Native.Nat.{ℕ}
+use mathlib.Core.Option.{Option, none, some}
+use Prim.Native.Nat.{ℕ, _≤_, _<_}
 use types.Run.{OneOf}
+use native.Mathlib.Omega.{arith}
 use borrow.Author.Tests.{eqb-true, ne-eqb}
-use Rattle.characters.specs.Choice.{_is_}
-use Rattle.characters.proofs.Choice.{and-both, or-either}
+use Rattle.characters.specs.Choice.{if_then_else_, _is_, within}
+use Rattle.characters.proofs.Choice.{and-both, or-either, within-bounds}
 use Rattle.rules.specs.Text.{oneOf}
-use Rattle.rules.specs.Tables.{lookup}
+use Rattle.rules.specs.Tables.{ESCAPES, lookup}
 use Rattle.bridge.proofs.Tests.{allPass}
+use Rattle.strings.specs.Escapes.{byteOf}
 
 -- None of the keys, the last arm's first, as a `match` with one key an arm tells it.
 abbrev pub Missed : List ℕ → ℕ → Type 0
@@ -32,3 +34,43 @@ lookup-missed ks [] v h m = refl
 lookup-missed ks (r ∷ rows) v h m =
     let p = and-both (oneOf ks (r .0)) (allPass (oneOf ks) (map (λ (r : ℕ × ℕ). r .0) rows)) h in
     rw (ne-eqb v (r .0) (missed ks v (r .0) m (p .0))) (lookup-missed ks rows v (p .1) m)
+
+-- ── Letters that the table has ──
+
+-- What holds of all keys of a table holds of one that has a row.
+pub lookup-key : (f : ℕ → Bool) (rows : List (ℕ × ℕ)) (e v : ℕ) → allPass f (map (λ (r : ℕ × ℕ). r .0) rows) ≡ true → lookup e rows ≡ some v → f e ≡ true
+unfolding lookup allPass
+lookup-key f [] e v h k = absurd (let z : _≡_ {A = ℕ} 0 1 = cc in omega arith)
+lookup-key f (r ∷ rows) e v h k =
+    let x = and-both (f (r .0)) (allPass f (map (λ (r : ℕ × ℕ). r .0) rows)) h in
+    go (e is r .0) refl k (x .0) (λ y. lookup-key f rows e v (x .1) y)
+  where
+    go : (b : Bool) → (e is r .0) ≡ b → (if b then some (r .1) else lookup e rows) ≡ some v → f (r .0) ≡ true → (lookup e rows ≡ some v → f e ≡ true) → f e ≡ true
+    go true q k x y = let z = eqb-true e (r .0) q in rw z x
+    go false q k x y = y k
+
+-- A letter of an escape is one flat character.
+pub letter-flat : (e v : ℕ) → lookup e ESCAPES ≡ some v → (11 ≤ e) × (e ≤ 0x7F)
+unfolding ESCAPES allPass within
+letter-flat e v k = within-bounds 11 0x7F e (lookup-key (within 11 0x7F) ESCAPES e v refl k)
+
+pub letter-not-u : (e v : ℕ) → lookup e ESCAPES ≡ some v → e ≡ 117 → ⊥
+unfolding ESCAPES allPass
+letter-not-u e v k x = false≢true (rw x at (lookup-key (λ c. not (c is 117)) ESCAPES e v refl k))
+
+pub letter-high : (e : ℕ) → 128 ≤ e → lookup e ESCAPES ≡ none
+letter-high e h = go (lookup e ESCAPES) refl
+  where
+    go : (o : Option ℕ) → lookup e ESCAPES ≡ o → o ≡ none
+    go none k = refl
+    go (some v) k = let z = letter-flat e v k in absurd (omega arith)
+
+-- ── The byte of a letter ──
+
+pub byte-some : (o : Option ℕ) (b : ℕ) → b ≡ byteOf o → b < 128 → o ≡ some b
+byte-some none b e h = absurd (omega arith)
+byte-some (some v) b e h = ap some (sym e)
+
+pub byte-none : (o : Option ℕ) (b : ℕ) → b ≡ byteOf o → 128 ≤ b → ((v : ℕ) → o ≡ some v → v ≤ 0x7F) → o ≡ none
+byte-none none b e h k = refl
+byte-none (some v) b e h k = let z = k v refl in absurd (omega arith)

@@ -1,7 +1,7 @@
 -- What a row of units promises.
 use mathlib.Core.Path.{_≡_}
 use mathlib.Core.Bool.{Bool, false, _&&_, not}
-use mathlib.Core.List.{List}
+use mathlib.Core.List.{List, [], _++_}
 use Prim.Native.Nat.{ℕ, _+_, _*_, _≤_}
 use lib.ListN.{length, take}
 use Rattle.characters.specs.Choice.{_is_, within}
@@ -33,6 +33,22 @@ runMade s p = unitsMade (unitsAhead (charsAt s (p .offset))) (charsAt s (p .offs
 
 abbrev pub runErrors : List ℕ → Position → List TokenizeError
 runErrors s p = unitsErrors (unitsAhead (charsAt s (p .offset))) p (charsAt s (p .offset))
+
+-- Units from `p` to `q` make the bytes `bs`, and `es` as errors: the units from `p` on are these, and then the units from `q` on.
+pub record Units (s : List ℕ) (p q : Position) (bs es : List ℕ) : Type 0 where
+  pub chars : Text
+  pub reach : Reach s p chars q
+  pub front : runChars s p ≡ chars ++ runChars s q
+  pub made : encode (runMade s p) ≡ bs ++ encode (runMade s q)
+  pub errors : errorBytes (runErrors s p) ≡ es ++ errorBytes (runErrors s q)
+  pub small : p .offset + length bs ≤ q .offset
+  pub few : 29 * p .offset + length es ≤ 29 * q .offset
+
+-- Units from `p` to `q` without errors; what they make is written at `ut` of the texts.
+pub record Wrote (s : List ℕ) (p q : Position) (texts texts′ : List ℕ) (ut mt : ℕ) : Type 0 where
+  pub bytes : List ℕ
+  pub units : Units s p q bytes []
+  pub made : Put texts texts′ ut bytes mt
 
 -- The units from `p` on, up to where none stands: what they make is written at `ut` of the texts, their errors at `ue` of the errors.
 -- They make no more bytes than they have, and their errors 29 bytes at most for each.

@@ -5,7 +5,7 @@ ghost use lib.ListN.{length, getD};
 ghost use Rattle.characters.specs.Utf8.{charsAt};
 ghost use Rattle.rules.specs.Tables.{ESCAPES, lookup};
 ghost use Rattle.rules.specs.Strings.{hexCode};
-ghost use Rattle.strings.specs.Escapes.{valueOf, digitOf};
+ghost use Rattle.strings.specs.Escapes.{valueOf, digitOf, byteOf, shortEscape};
 use super::Value;
 use characters::utf8;
 
@@ -53,22 +53,47 @@ pub fn four_digits(text: &[u8], at: usize) -> Value
     Value::Some(((a * 16 + b) * 16 + c) * 16 + d)
 }
 
+// The byte that a letter behind a backslash stands for, or 128.
+fn letter_byte(e: u8) -> u8
+    ensures { λ r. ⌜ r ≡ byteOf (lookup e ESCAPES) ⌝ }
+{
+    match e {
+        110 => 10,
+        116 => 9,
+        114 => 13,
+        92 => 92,
+        39 => 39,
+        34 => 34,
+        48 => 0,
+        98 => 8,
+        102 => 12,
+        118 => 11,
+        47 => 47,
+        _ => 128,
+    }
+}
+
 // The character that a letter behind a backslash stands for.
 pub fn escaped(e: u32) -> Value
     ensures { λ r. ⌜ r ≡ valueOf (lookup e ESCAPES) ⌝ }
 {
-    match e {
-        110 => Value::Some(10),
-        116 => Value::Some(9),
-        114 => Value::Some(13),
-        92 => Value::Some(92),
-        39 => Value::Some(39),
-        34 => Value::Some(34),
-        48 => Value::Some(0),
-        98 => Value::Some(8),
-        102 => Value::Some(12),
-        118 => Value::Some(11),
-        47 => Value::Some(47),
-        _ => Value::None,
+    if 128 <= e {
+        return Value::None;
     }
+    let b = letter_byte(e as u8);
+    if 128 <= b {
+        return Value::None;
+    }
+    Value::Some(b as u32)
+}
+
+// The byte that the backslash and the letter at a place stand for; 128 where they do not stand for one.
+pub fn short_escape(text: &[u8], at: usize) -> u8
+    requires { ⌜ at ≤ 1048576 ⌝ }
+    ensures { λ r. ⌜ r ≡ shortEscape (now (text .entry)) at ⌝ }
+{
+    if utf8::byte_at(text, at) == 92 {
+        return letter_byte(utf8::byte_at(text, at + 1));
+    }
+    128
 }

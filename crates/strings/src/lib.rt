@@ -42,6 +42,12 @@ pub enum Found {
     None,
 }
 
+// Units without errors, one after another: where they end, and how many bytes of the texts are used then.
+pub struct Written {
+    pub at: Position,
+    pub texts: usize,
+}
+
 // Units one after another: where they end, and how many bytes of the two buffers are used then.
 pub struct Run {
     pub at: Position,

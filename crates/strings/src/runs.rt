@@ -9,11 +9,13 @@ ghost use Rattle.bridge.specs.Bridge.{Within, Fits, Cut};
 ghost use Rattle.output.specs.Writing.{Put};
 ghost use Rattle.records.specs.Layout.{errorBytes};
 ghost use Rattle.strings.specs.Units.{madeBytes, IsChar, spanBehind, mistakes};
-ghost use Rattle.strings.specs.Runs.{Room, isPlain, RunAt};
+ghost use Rattle.strings.specs.Runs.{Room, isPlain, Wrote, RunAt};
 use super::Found;
 use super::Made;
 use super::Mistake;
 use super::Run;
+use super::Written;
+use super::escapes;
 use super::units;
 use spans::Position;
 use walks::error;
@@ -87,7 +89,47 @@ pub fn plain_end(text: &[u8], from: usize) -> usize
     at
 }
 
-// The units from p to where none stands. Characters that stand for themselves are passed and written together.
+// Writes the escapes of one byte from p on.
+fn put_escapes(text: &[u8], p: Position, texts: &mut [u8], used_texts: usize) -> Written
+    requires { ⌜ Within (now text) p ⌝ }
+    requires { ⌜ «used_texts» ≤ 1099513724928 ⌝ }
+    ensures { λ r. ⌜ Wrote (now (text .entry)) p (r .at) (now (texts .entry)) (now (texts .exit)) «used_texts» (r .texts) ⌝ }
+{
+    let mut at = p;
+    let mut made = used_texts;
+    loop {
+        let v = escapes::short_escape(text, at.offset);
+        if 128 <= v {
+            return Written { at, texts: made };
+        }
+        made = output::put_byte(texts, made, v);
+        at = bridge::along(at, 2);
+    }
+}
+
+// Writes the characters that stand for themselves and the escapes of one byte, from p on.
+pub fn put_simple(text: &[u8], p: Position, texts: &mut [u8], used_texts: usize) -> Written
+    requires { ⌜ Within (now text) p ⌝ }
+    requires { ⌜ «used_texts» ≤ 1099512676352 ⌝ }
+    ensures { λ r. ⌜ Wrote (now (text .entry)) p (r .at) (now (texts .entry)) (now (texts .exit)) «used_texts» (r .texts) ⌝ }
+{
+    let mut at = p;
+    let mut made = used_texts;
+    loop {
+        let from = at.offset;
+        let to = plain_end(text, from);
+        let q = bridge::along(at, to - from);
+        let part = output::put_part(text, from, to, texts, made);
+        let w = put_escapes(text, q, texts, part);
+        at = w.at;
+        made = w.texts;
+        if at.offset == to {
+            return w;
+        }
+    }
+}
+
+// The units from p to where none stands.
 pub fn run_units(
     text: &[u8],
     p: Position,
@@ -104,10 +146,9 @@ pub fn run_units(
     let mut made = used_texts;
     let mut noted = used_errors;
     loop {
-        let from = at.offset;
-        let to = plain_end(text, from);
-        let q = bridge::along(at, to - from);
-        let part = output::put_part(text, from, to, texts, made);
+        let w = put_simple(text, at, texts, made);
+        let q = w.at;
+        let part = w.texts;
         let Found::Some(u) = units::unit_at(text, q) else {
             return Run {
                 at: q,
