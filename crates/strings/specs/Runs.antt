@@ -20,7 +20,7 @@ pub record Room (ut ue : ℕ) : Type 0 where
   pub texts : ut ≤ 1099511627776
   pub errors : ue ≤ 1099511627776
 
--- A character of one byte that stands for itself in a string, whatever follows it. (Others do, too: they are looked at one by one.)
+-- A character of one byte that stands for itself in a string, whatever follows it. (Those beyond ASCII do, too.)
 unfoldable pub isPlain : Char → Bool
 isPlain c = within 11 0x7F c && not (c is ch "\"") && not (c is ch "$") && not (c is ch "\\")
 

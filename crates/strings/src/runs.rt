@@ -1,7 +1,9 @@
 // The units of a string up to where none stands, written while they are scanned.
 ghost use mathlib.Core.Path.{_≡_};
+ghost use mathlib.Core.List.{[]};
 ghost use Prim.Native.Nat.{_≤_};
 ghost use lib.ListN.{length};
+ghost use lib.Seq.{slice};
 ghost use Rattle.characters.specs.Utf8.{charsAt};
 ghost use Rattle.rules.specs.Scan.{run};
 ghost use Rattle.records.specs.Records.{errorRecord};
@@ -9,7 +11,7 @@ ghost use Rattle.bridge.specs.Bridge.{Within, Fits, Cut};
 ghost use Rattle.output.specs.Writing.{Put};
 ghost use Rattle.records.specs.Layout.{errorBytes};
 ghost use Rattle.strings.specs.Units.{madeBytes, IsChar, spanBehind, mistakes};
-ghost use Rattle.strings.specs.Runs.{Room, isPlain, Wrote, RunAt};
+ghost use Rattle.strings.specs.Runs.{Room, isPlain, Units, Wrote, RunAt};
 use super::Found;
 use super::Made;
 use super::Mistake;
@@ -17,6 +19,7 @@ use super::Run;
 use super::Written;
 use super::escapes;
 use super::units;
+use characters::utf8;
 use spans::Position;
 use walks::error;
 
@@ -89,6 +92,26 @@ pub fn plain_end(text: &[u8], from: usize) -> usize
     at
 }
 
+// The position after the characters from p on that stand for themselves, those beyond ASCII with them.
+pub fn past_plain(text: &[u8], p: Position) -> Position
+    requires { ⌜ Within (now text) p ⌝ }
+    ensures { λ r. ⌜ Units (now (text .entry)) p r (slice (p .offset) (r .offset) (now (text .entry))) [] ⌝ }
+{
+    let mut at = p;
+    loop {
+        let from = at.offset;
+        let to = plain_end(text, from);
+        let q = bridge::along(at, to - from);
+        if utf8::byte_at(text, to) < 128 {
+            return q;
+        }
+        at = bridge::past_wide(text, q);
+        if at.offset == to {
+            return q;
+        }
+    }
+}
+
 // Writes the escapes of one byte from p on.
 fn put_escapes(text: &[u8], p: Position, texts: &mut [u8], used_texts: usize) -> Written
     requires { ⌜ Within (now text) p ⌝ }
@@ -117,8 +140,8 @@ pub fn put_simple(text: &[u8], p: Position, texts: &mut [u8], used_texts: usize)
     let mut made = used_texts;
     loop {
         let from = at.offset;
-        let to = plain_end(text, from);
-        let q = bridge::along(at, to - from);
+        let q = past_plain(text, at);
+        let to = q.offset;
         let part = output::put_part(text, from, to, texts, made);
         let w = put_escapes(text, q, texts, part);
         at = w.at;

@@ -1,11 +1,8 @@
-use mathlib.Core.Path.{ap}
 use Prim.Native.Nat.{_-_, _≤_}
 use lib.ListN.{length}
-use Rattle.spans.specs.declared.Position.{Position}
-use Rattle.bridge.proofs.Reaches.{within-fits}
 use Rattle.output.proofs.Buffers.{put-length}
 use Rattle.strings.specs.Runs.{Wrote}
-use Rattle.strings.proofs.Rows.{units-plain, wrote-start, wrote-few, wrote-more, wrote-join}
+use Rattle.strings.proofs.Rows.{wrote-start, wrote-few, wrote-more, wrote-join}
 use native.Mathlib.Omega.{arith}
 use Rattle.strings.proofs.runs.put_simple.Statement.{statement}
 use Rattle.strings.proofs.runs.put_simple.Tie as tie
@@ -22,38 +19,24 @@ loop-holds c =
     let a = i .args in
     (wrote-start (a .text .now) (a .p) (a .texts .now) (a .used-texts) (i .pre .0), i .pre .1)
 
-plain-end-requires : tie.Need-plain-end-requires Inv-loop μ-loop
-plain-end-requires c κs = c .loop .inv .0 .units .reach .within .inside
-
-sub-along : tie.Need-sub-along Inv-loop μ-loop
-sub-along c = c .plain-end .ensures .forth
-
-along-requires : tie.Need-along-requires Inv-loop μ-loop
-along-requires c κs =
-    let l = c .before .loop in
-    let s = c .before .before .before .before .args .text .now in
-    let w = l .inv .0 .units .reach .within in
-    within-fits s (l .at) _ w (omega (arith, c .plain-end .ensures .inside, w .size))
+past-plain-requires : tie.Need-past-plain-requires Inv-loop μ-loop
+past-plain-requires c κs = c .loop .inv .0 .units .reach .within
 
 put-part-requires : tie.Need-put-part-requires Inv-loop μ-loop
 put-part-requires c κs =
-    let at-plain-end = c .before .before in
-    let l = at-plain-end .before .loop in
-    let k = at-plain-end .plain-end .ensures in
-    let w = l .inv .0 .units .reach .within in
+    let at-past-plain = c .before in
+    let l = at-past-plain .before .loop in
+    let u = at-past-plain .past-plain .ensures in
+    let w = u .reach .within in
     let f = wrote-few _ _ _ _ _ _ _ (l .inv .0) in
-    (k .forth, (k .inside, (omega (arith, k .inside, w .size), omega (arith, f .0, f .1, l .inv .1))))
+    (omega (arith, u .small), (w .inside, (omega (arith, w .inside, w .size), omega (arith, f .0, f .1, l .inv .1))))
 
 put-escapes-requires : tie.Need-put-escapes-requires Inv-loop μ-loop
 put-escapes-requires c κs =
     let at-put-part = c .before .before .before in
-    let at-along = at-put-part .before .before in
-    let at-plain-end = at-along .before in
-    let at-loop = at-plain-end .before in
-    let s = at-loop .before .before .before .args .text .now in
-    let l = at-loop .loop in
-    let u = units-plain s (l .at) (at-along .along .result) _ (l .inv .0 .units .reach .within) (at-plain-end .plain-end .ensures) (at-along .along .ensures) in
-    let y = wrote-more s _ (l .at) _ _ _ _ (l .inv .0) _ _ _ _ u (at-put-part .put-part .ensures) in
+    let at-past-plain = at-put-part .before .before in
+    let l = at-past-plain .before .loop in
+    let y = wrote-more _ _ _ _ _ _ _ (l .inv .0) _ _ _ _ (at-past-plain .past-plain .ensures) (at-put-part .put-part .ensures) in
     let f = wrote-few _ _ _ _ _ _ _ y in
     (y .units .reach .within, omega (arith, f .0, f .1, l .inv .1))
 
@@ -61,53 +44,39 @@ same-length : tie.Need-same-length Inv-loop μ-loop
 same-length c =
     let at-put-escapes = c .before .before .before .before .before in
     let at-put-part = at-put-escapes .before .before .before .before in
-    let at-along = at-put-part .before .before in
-    let at-plain-end = at-along .before in
-    let at-loop = at-plain-end .before in
-    let s = at-loop .before .before .before .args .text .now in
-    let l = at-loop .loop in
-    let u = units-plain s (l .at) (at-along .along .result) _ (l .inv .0 .units .reach .within) (at-plain-end .plain-end .ensures) (at-along .along .ensures) in
-    let y = wrote-more s _ (l .at) _ _ _ _ (l .inv .0) _ _ _ _ u (at-put-part .put-part .ensures) in
-    let z = wrote-join s _ _ _ _ _ _ y _ _ _ (at-put-escapes .put-escapes .ensures) in
+    let at-past-plain = at-put-part .before .before in
+    let l = at-past-plain .before .loop in
+    let y = wrote-more _ _ _ _ _ _ _ (l .inv .0) _ _ _ _ (at-past-plain .past-plain .ensures) (at-put-part .put-part .ensures) in
+    let z = wrote-join _ _ _ _ _ _ _ y _ _ _ (at-put-escapes .put-escapes .ensures) in
     put-length _ _ _ _ _ (z .made)
 
 returns : tie.Need-returns Inv-loop μ-loop
 returns c =
     let at-put-escapes = c .before .before .before .before .before in
     let at-put-part = at-put-escapes .before .before .before .before in
-    let at-along = at-put-part .before .before in
-    let at-plain-end = at-along .before in
-    let at-loop = at-plain-end .before in
-    let s = at-loop .before .before .before .args .text .now in
-    let l = at-loop .loop in
-    let u = units-plain s (l .at) (at-along .along .result) _ (l .inv .0 .units .reach .within) (at-plain-end .plain-end .ensures) (at-along .along .ensures) in
-    let y = wrote-more s _ (l .at) _ _ _ _ (l .inv .0) _ _ _ _ u (at-put-part .put-part .ensures) in
-    wrote-join s _ _ _ _ _ _ y _ _ _ (at-put-escapes .put-escapes .ensures)
+    let at-past-plain = at-put-part .before .before in
+    let l = at-past-plain .before .loop in
+    let y = wrote-more _ _ _ _ _ _ _ (l .inv .0) _ _ _ _ (at-past-plain .past-plain .ensures) (at-put-part .put-part .ensures) in
+    wrote-join _ _ _ _ _ _ _ y _ _ _ (at-put-escapes .put-escapes .ensures)
 
 loop-less : tie.Need-loop-less Inv-loop μ-loop
 loop-less c =
     let at-put-escapes = c .before .before .before .before .before in
-    let at-put-part = at-put-escapes .before .before .before .before in
-    let at-along = at-put-part .before .before in
-    let at-plain-end = at-along .before in
-    let l = at-plain-end .before .loop in
-    let k = at-plain-end .plain-end .ensures in
+    let at-past-plain = at-put-escapes .before .before .before .before .before .before in
+    let l = at-past-plain .before .loop in
+    let u = at-past-plain .past-plain .ensures in
     let z = at-put-escapes .put-escapes .ensures .units in
     let n = c .if1 .left in
-    omega (arith, k .forth, z .small, z .reach .within .inside, ap (λ (z : Position). z .offset) (at-along .along .ensures))
+    omega (arith, u .small, z .small, z .reach .within .inside)
 
 loop-again : tie.Need-loop-again Inv-loop μ-loop
 loop-again c =
     let at-put-escapes = c .before .before .before .before .before in
     let at-put-part = at-put-escapes .before .before .before .before in
-    let at-along = at-put-part .before .before in
-    let at-plain-end = at-along .before in
-    let at-loop = at-plain-end .before in
-    let s = at-loop .before .before .before .args .text .now in
-    let l = at-loop .loop in
-    let u = units-plain s (l .at) (at-along .along .result) _ (l .inv .0 .units .reach .within) (at-plain-end .plain-end .ensures) (at-along .along .ensures) in
-    let y = wrote-more s _ (l .at) _ _ _ _ (l .inv .0) _ _ _ _ u (at-put-part .put-part .ensures) in
-    (wrote-join s _ _ _ _ _ _ y _ _ _ (at-put-escapes .put-escapes .ensures), l .inv .1)
+    let at-past-plain = at-put-part .before .before in
+    let l = at-past-plain .before .loop in
+    let y = wrote-more _ _ _ _ _ _ _ (l .inv .0) _ _ _ _ (at-past-plain .past-plain .ensures) (at-put-part .put-part .ensures) in
+    (wrote-join _ _ _ _ _ _ _ y _ _ _ (at-put-escapes .put-escapes .ensures), l .inv .1)
 
 pub put-simple-spec : {M : Type 1} → statement M
 put-simple-spec =
@@ -116,9 +85,7 @@ put-simple-spec =
     Inv-loop
     μ-loop
     loop-holds
-    plain-end-requires
-    sub-along
-    along-requires
+    past-plain-requires
     put-part-requires
     put-escapes-requires
     same-length
