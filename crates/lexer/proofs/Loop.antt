@@ -1,4 +1,4 @@
--- Laws of the list loop: what is still to be written, one turn, and the end. Assumes nothing.
+-- Laws of the list loop: what is still to be written, one turn, and the end. Assumes nothingUsed.
 use mathlib.Core.Path.{_≡_, refl, sym, _∙_, ap, subst}
 use mathlib.Core.Bool.{Bool, true, false, _&&_, _||_, not}
 use mathlib.Core.List.{List, _∷_, _++_, map}
@@ -24,7 +24,7 @@ use Rattle.scanner.specs.declared.Step.{Step}
 use Rattle.scanner.specs.declared.Step.the-variants as step
 use Rattle.lexer.specs.declared.Used.{Used}
 use Rattle.lexer.specs.Tokenize.{needed}
-use Rattle.lexer.specs.Run.{mostTokens, mostTexts, mostErrors, Ran}
+use Rattle.lexer.specs.Run.{mostTokens, mostTexts, mostErrors, Ran, nothingUsed}
 use Rattle.lexer.proofs.Totals.{text-low, few-tokens, few-texts, few-errors, few-counted}
 
 -- ── The loop between two turns ──
@@ -42,9 +42,6 @@ pub record Going (script s tokens₀ texts₀ errors₀ tokens texts errors : Li
   pub closed-ahead : (u .closed && not (rest s c .ran-out)) ≡ scriptClosed script
 
 -- ── The beginning ──
-
-abbrev pub nothing : Used
-nothing = record { tokens = 0; texts = 0; errors = 0; count = 0; closed = true }
 
 module _ (script : List ℕ) where
   begin-tokens : map asBytes (rest (afterMark script) begin .tokens) ≡ scriptTokens script
@@ -65,10 +62,10 @@ module _ (script : List ℕ) where
       record { at = record { size = h; inside = zero-le; lines = omega arith; columns = omega arith } }
 
 pub going-start : (script s tokens texts errors : List ℕ) → s ≡ afterMark script → accepted script ≡ true
-    → Going script s tokens texts errors tokens texts errors begin nothing
+    → Going script s tokens texts errors tokens texts errors begin nothingUsed
 unfolding tokenBytes
 going-start script s tokens texts errors e ok =
-    subst (λ (t : List ℕ). Going script t tokens texts errors tokens texts errors begin nothing) (sym e)
+    subst (λ (t : List ℕ). Going script t tokens texts errors tokens texts errors begin nothingUsed) (sym e)
     (record {
       ok = ok;
       good = begin-good script ok;

@@ -80,7 +80,7 @@ module _ (script s : List ℕ) (at used : ℕ) (t : Token) (ts : List Token) (b 
           ((if m
           then record {
             offset = if h then if m then used else t .span .start else 0;
-            length = if h then length (t .text) else 0;
+            size = if h then length (t .text) else 0;
           }
           ∷ []
           else [])

@@ -11,11 +11,11 @@ use Rattle.records.specs.declared.answers.TokenRecord.{TokenRecord}
 
 pub record Place : Type 0 where
   pub offset : ℕ
-  pub length : ℕ
+  pub size : ℕ
 
 -- The place that a record tells, where its kind has a text in the text buffer.
 unfoldable pub placeOf : TokenRecord → List Place
-placeOf r = if isMade (r .kind) then record { offset = r .offset; length = r .length } ∷ [] else []
+placeOf r = if isMade (r .kind) then record { offset = r .offset; size = r .length } ∷ [] else []
 
 unfoldable pub placeTurn : (ℕ → List Place) → Answer TokenRecord → ℕ → List Place
 placeTurn rest (got r) next = placeOf r ++ (if r .kind is EOF then [] else rest next)
@@ -30,4 +30,4 @@ placesFrom (suc turns) s at = placeTurn (placesFrom turns s) (nextAt s at .answe
 -- the end.
 unfoldable pub Fills : ℕ → List Place → ℕ → Type 0
 Fills from [] to = from ≡ to
-Fills from (p ∷ ps) to = (p .offset ≡ from) × Fills (from + p .length) ps to
+Fills from (p ∷ ps) to = (p .offset ≡ from) × Fills (from + p .size) ps to

@@ -1,6 +1,6 @@
 -- What the list loop leaves, and when one pass is enough.
 use mathlib.Core.Path.{_≡_}
-use mathlib.Core.Bool.{Bool, _&&_}
+use mathlib.Core.Bool.{Bool, true, _&&_}
 use mathlib.Core.List.{List}
 use Prim.Native.Nat.{ℕ, _+_, _*_}
 use lib.Dec.{leb}
@@ -16,6 +16,10 @@ pub record Ran (s tokens texts errors : List ℕ) (r : Used) (tokens′ texts′
   pub tokens-written : tokens′ ≡ sets tokens 0 (tokenBytes (scriptTokens s))
   pub texts-written : texts′ ≡ sets texts 0 (textBytes (scriptTokens s))
   pub errors-written : errors′ ≡ sets errors 0 (errorBytes (scriptErrors s))
+
+-- Nothing used yet, and nothing open.
+abbrev pub nothingUsed : Used
+nothingUsed = record { tokens = 0; texts = 0; errors = 0; count = 0; closed = true }
 
 -- What a text of `n` bytes takes at most: n + 1 tokens, with records of up to 33 bytes; texts of 2 n + 2 bytes; and n errors, with
 -- records of up to 29 bytes.

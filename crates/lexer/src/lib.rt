@@ -4,7 +4,8 @@ ghost use mathlib.Core.Bool.{true};
 ghost use Prim.Native.Nat.{_≤_};
 ghost use Rattle.rules.specs.Script.{LIMIT, accepted};
 ghost use Rattle.lexer.specs.Tokenize.{ofAnswer, needed, askText, askRoom, measureAnswer, Tokenized};
-ghost use Rattle.lexer.specs.Run.{Ran, roomy};
+ghost use Rattle.scanner.specs.Step.{begin as beginning};
+ghost use Rattle.lexer.specs.Run.{Ran, roomy, nothingUsed};
 use characters::Checked;
 use characters::mark;
 use characters::utf8;
@@ -74,6 +75,34 @@ fn is_roomy(n: usize, tokens: usize, texts: usize, errors: usize) -> bool
     (33 * (n + 1) <= tokens) & (2 * n + 2 <= texts) & (29 * n <= errors)
 }
 
+// The cursor at the beginning of a text.
+fn begin() -> Cursor
+    ensures { λ r. ⌜ r ≡ beginning ⌝ }
+{
+    let at = Position {
+        offset: 0,
+        line: 1,
+        col: 1,
+    };
+    Cursor {
+        at,
+        within: Within::Outside,
+    }
+}
+
+// Nothing used yet, and nothing open.
+fn nothing() -> Used
+    ensures { λ r. ⌜ r ≡ nothingUsed ⌝ }
+{
+    Used {
+        tokens: 0,
+        texts: 0,
+        errors: 0,
+        count: 0,
+        closed: true,
+    }
+}
+
 // The list loop: each token's record, text and errors, as far as the buffers hold them, and what all of them take.
 fn run(script: &[u8], tokens: &mut [u8], texts: &mut [u8], errors: &mut [u8]) -> Used
     requires { ⌜ accepted (now script) ≡ true ⌝ }
@@ -84,21 +113,8 @@ fn run(script: &[u8], tokens: &mut [u8], texts: &mut [u8], errors: &mut [u8]) ->
     let slots = keyword::slot_table();
     let keywords = keyword::keyword_table();
     let text = mark::after_mark(script);
-    let mut c = Cursor {
-        at: Position {
-            offset: 0,
-            line: 1,
-            col: 1,
-        },
-        within: Within::Outside,
-    };
-    let mut u = Used {
-        tokens: 0,
-        texts: 0,
-        errors: 0,
-        count: 0,
-        closed: true,
-    };
+    let mut c = begin();
+    let mut u = nothing();
     loop {
         let Step::Token(t, next) = step(
             &classes,

@@ -31,13 +31,21 @@ keyword-table-requires c κs = tt
 after-mark-requires : tie.Need-after-mark-requires Inv-loop μ-loop
 after-mark-requires c κs = tt
 
+begin-requires : tie.Need-begin-requires Inv-loop μ-loop
+begin-requires c κs = tt
+
+nothing-requires : tie.Need-nothing-requires Inv-loop μ-loop
+nothing-requires c κs = tt
+
 loop-holds : tie.Need-loop-holds Inv-loop μ-loop
-loop-holds c = going-start _ _ _ _ _ (c .after-mark .ensures) (c .before .before .before .before .before .before .before .before .before .pre)
+loop-holds c =
+    rw (c .nothing .ensures, c .before .begin .ensures)
+    (going-start _ _ _ _ _ (c .before .before .after-mark .ensures) (c .before .before .before .before .before .before .before .before .before .before .before .pre))
 
 step-requires : tie.Need-step-requires Inv-loop μ-loop
 step-requires c κs =
     let l = c .before .before .before .before .before .before .loop in
-    (c .before .before .before .before .before .before .before .before .before .before .before .class-table .ensures, (c .before .before .before .before .before .before .before .before .before .before .mark-table .ensures, (c .before .before .before .before .before .before .before .before .before .slot-table .ensures, (c .before .before .before .before .before .before .before .before .keyword-table .ensures, (l .inv .good, going-used _ _ _ _ _ _ _ _ _ _ (l .inv))))))
+    (c .before .before .before .before .before .before .before .before .before .before .before .before .before .class-table .ensures, (c .before .before .before .before .before .before .before .before .before .before .before .before .mark-table .ensures, (c .before .before .before .before .before .before .before .before .before .before .before .slot-table .ensures, (c .before .before .before .before .before .before .before .before .before .before .keyword-table .ensures, (l .inv .good, going-used _ _ _ _ _ _ _ _ _ _ (l .inv))))))
 
 enum-known-t : tie.Need-enum-known-t Inv-loop μ-loop
 enum-known-t c = search needs
@@ -86,6 +94,8 @@ run-spec =
     slot-table-requires
     keyword-table-requires
     after-mark-requires
+    begin-requires
+    nothing-requires
     loop-holds
     step-requires
     enum-known-t
