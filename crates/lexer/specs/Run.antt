@@ -7,6 +7,8 @@ use lib.Dec.{leb}
 use lib.Seq.{sets}
 use Rattle.rules.specs.Script.{scriptTokens, scriptErrors}
 use Rattle.records.specs.Layout.{tokenBytes, textBytes, errorBytes}
+use Rattle.scanner.specs.declared.Cursor.{Cursor}
+use Rattle.scanner.specs.declared.Within.the-variants.{Outside}
 use Rattle.lexer.specs.declared.Used.{Used}
 use Rattle.lexer.specs.Tokenize.{needed}
 
@@ -16,6 +18,10 @@ pub record Ran (s tokens texts errors : List ℕ) (r : Used) (tokens′ texts′
   pub tokens-written : tokens′ ≡ sets tokens 0 (tokenBytes (scriptTokens s))
   pub texts-written : texts′ ≡ sets texts 0 (textBytes (scriptTokens s))
   pub errors-written : errors′ ≡ sets errors 0 (errorBytes (scriptErrors s))
+
+-- The cursor at a place of the first line, outside of strings.
+abbrev pub beginAt : ℕ → Cursor
+beginAt place = record { at = record { offset = place; line = 1; col = 1 }; within = Outside }
 
 -- Nothing used yet, and nothing open.
 abbrev pub nothingUsed : Used

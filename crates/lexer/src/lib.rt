@@ -4,8 +4,7 @@ ghost use mathlib.Core.Bool.{true};
 ghost use Prim.Native.Nat.{_≤_};
 ghost use Rattle.rules.specs.Script.{LIMIT, accepted};
 ghost use Rattle.lexer.specs.Tokenize.{ofAnswer, needed, askText, askRoom, measureAnswer, Tokenized};
-ghost use Rattle.scanner.specs.Step.{begin as beginning};
-ghost use Rattle.lexer.specs.Run.{Ran, roomy, nothingUsed};
+ghost use Rattle.lexer.specs.Run.{Ran, roomy, beginAt, nothingUsed};
 use characters::Checked;
 use characters::mark;
 use characters::utf8;
@@ -75,12 +74,12 @@ fn is_roomy(n: usize, tokens: usize, texts: usize, errors: usize) -> bool
     (33 * (n + 1) <= tokens) & (2 * n + 2 <= texts) & (29 * n <= errors)
 }
 
-// The cursor at the beginning of a text.
-fn begin() -> Cursor
-    ensures { λ r. ⌜ r ≡ beginning ⌝ }
+// The cursor at a place of the first line, outside of strings. A text begins at the place 0.
+fn begin(place: usize) -> Cursor
+    ensures { λ r. ⌜ r ≡ beginAt place ⌝ }
 {
     let at = Position {
-        offset: 0,
+        offset: place,
         line: 1,
         col: 1,
     };
@@ -113,7 +112,7 @@ fn run(script: &[u8], tokens: &mut [u8], texts: &mut [u8], errors: &mut [u8]) ->
     let slots = keyword::slot_table();
     let keywords = keyword::keyword_table();
     let text = mark::after_mark(script);
-    let mut c = begin();
+    let mut c = begin(0);
     let mut u = nothing();
     loop {
         let Step::Token(t, next) = step(
