@@ -44,7 +44,8 @@ pub record Units (s : List ℕ) (p q : Position) (bs es : List ℕ) : Type 0 whe
   pub small : p .offset + length bs ≤ q .offset
   pub few : 29 * p .offset + length es ≤ 29 * q .offset
 
--- Units from `p` to `q` without errors; what they make is written at `ut` of the texts.
+-- Units from `p` to `q` without errors; what they make is written at `ut` of the texts. How far `q` lies is left open: a row of units
+-- goes on from there.
 pub record Wrote (s : List ℕ) (p q : Position) (texts texts′ : List ℕ) (ut mt : ℕ) : Type 0 where
   pub bytes : List ℕ
   pub units : Units s p q bytes []
