@@ -1,6 +1,6 @@
 -- A string one step at a time. The rule `parseStringTokens` gives all the tokens of a string at once; here is what a step of it leaves.
 -- Assumes nothing.
-use mathlib.Core.Path.{_≡_, refl, ap, _∙_}
+use mathlib.Core.Path.{_≡_, refl, ap, _∙_, sym}
 use mathlib.Core.Bool.{Bool, true, false, _&&_, _||_}
 use mathlib.Core.List.{List, [], _∷_, _++_, map, map-append, append-assoc}
 use mathlib.Core.Option.{Option, none, some}
@@ -22,7 +22,7 @@ use Rattle.rules.specs.Strings.{Escape, hexCode, unicodeEscape, plainEscape, es
 use Rattle.rules.specs.Lexer.{segment, sizeBehindFirst, segments, advance, advances, skips, isSpace, after, tokensOf, errorsOf, Lexed, behind, place, lex}
 use Rattle.rules.proofs.Ahead.{is-not}
 use Rattle.rules.proofs.Front.{string-front, segment-takes}
-use Rattle.rules.proofs.Join.{size-fits, rest-is}
+use Rattle.rules.proofs.Join.{size-fits, rest-is, or-assoc}
 use Rattle.cursor.specs.declared.Cursor.the-variants.{InString}
 use Rattle.cursor.specs.Cursor.{placeFrom, tokensFrom, faultsFrom, andThen, held, left}
 
@@ -332,15 +332,11 @@ unfolding faultsFrom
 faults-append start p t [] ys = refl
 faults-append start p t (x ∷ xs) ys = rw (faults-append start p t xs ys)
 
-pub or-assoc : (a b c : Bool) → ((a || b) || c) ≡ (a || (b || c))
-or-assoc true b c = refl
-or-assoc false b c = refl
-
 -- Two steps are one.
 pub then-join : (ts us : List Token) (es fs : List TokenizeError) (o o′ : Bool) (r : Lexed)
     → andThen ts es o (andThen us fs o′ r) ≡ andThen (ts ++ us) (es ++ fs) (o || o′) r
 then-join ts us es fs o o′ r =
-    rw (append-assoc ts us (r .body), append-assoc es fs (r .errors), or-assoc o o′ (r .open-end))
+    rw (append-assoc ts us (r .body), append-assoc es fs (r .errors), sym (or-assoc o o′ (r .open-end)))
 
 -- A step that takes `t`, yields the tokens `ps` and the errors `fs`, with `o` for whether the text ran out in it, and then holds `buf′`
 -- back.
@@ -370,5 +366,5 @@ held-step interp interp′ start p buf buf′ t rest ps fs o e =
       drop-append-add t rest (length (s .chars)),
       append-assoc (tokensFrom start p (t ++ s .chars) ps) (tokensFrom start (advances p t) (s .chars) (s .pieces)) (r .body),
       append-assoc (faultsFrom start p (t ++ s .chars) fs) (faultsFrom start (advances p t) (s .chars) (s .faults)) (r .errors),
-      or-assoc o (s .open-end) (r .open-end),
+      sym (or-assoc o (s .open-end) (r .open-end)),
     )

@@ -24,15 +24,9 @@ use Rattle.strings.specs.declared.Made.the-variants as made
 use Rattle.strings.specs.declared.Mistake.the-variants as mistake
 use Rattle.strings.specs.declared.Unit as code
 use Rattle.strings.specs.Units.{unicodeUnit, UnitAt}
-use Rattle.strings.proofs.UnitLaws.{char-unit, plain-unit, escape-small}
+use Rattle.strings.proofs.UnitLaws.{char-unit, no-error, plain-unit, escape-small}
 use Rattle.characters.proofs.Widths.{width-one}
-use Rattle.cursor.specs.Strings.{unitErrors}
-use Rattle.rules.specs.Lexer.{errorsOf}
 use Rattle.letters.specs.Letters.{escapeLetter, letterOf, runsOut}
-
-no-error : (p : Position) (t m : Text) → unitErrors p (record { chars = t; made = m; faults = [] }) ≡ []
-unfolding unitErrors errorsOf
-no-error p t m = refl
 
 -- A character of a text can be encoded.
 pub char-bound : (s : List ℕ) (at c : ℕ) (cs : Text) → charsAt s at ≡ c ∷ cs → c ≤ 0x10FFFF

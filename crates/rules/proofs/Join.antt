@@ -87,7 +87,7 @@ joined a b =
       stop = b .stop;
     }
 
-or-assoc : (a b c : Bool) → (a || (b || c)) ≡ (a || b || c)
+pub or-assoc : (a b c : Bool) → (a || (b || c)) ≡ (a || b || c)
 or-assoc true b c = refl
 or-assoc false b c = refl
 

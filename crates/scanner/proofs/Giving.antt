@@ -12,11 +12,13 @@ use Rattle.spans.specs.declared.Position.{Position}
 use Rattle.rules.specs.Text.{Text}
 use Rattle.rules.specs.Tokens.{Token, TokenizeError}
 use Rattle.rules.specs.Lexer.{Lexed, eof}
+use Rattle.rules.proofs.Join.{or-assoc}
 use Rattle.cursor.specs.Cursor.{left, Yields, andThen as thenLexed}
 use Rattle.cursor.specs.declared.Cursor as cursor
 use Rattle.cursor.specs.declared.Cursor.the-variants as cur
 use Rattle.cursor.proofs.Steps.{left-end}
-use Rattle.records.specs.Layout.{errorRecordOf, errorBytes}
+use Rattle.records.specs.Layout.{errorBytes}
+use Rattle.records.proofs.Filling.{errors-append}
 use Rattle.bridge.specs.Bridge.{Within}
 use Rattle.output.specs.Writing.{Put}
 use Rattle.output.proofs.Buffers.{put-none}
@@ -105,16 +107,6 @@ module _ (s : List ℕ) (p : Position) (texts : List ℕ) (ut : ℕ) (errors : L
       }
 
 -- ── Errors recorded before a token ──
-
-pub errors-append : (es fs : List TokenizeError) → errorBytes (es ++ fs) ≡ errorBytes es ++ errorBytes fs
-unfolding errorBytes
-errors-append [] fs = refl
-errors-append (e ∷ es) fs =
-    ap (λ (bs : List ℕ). errorRecordOf e ++ bs) (errors-append es fs) ∙ sym (append-assoc (errorRecordOf e) (errorBytes es) (errorBytes fs))
-
-or-assoc : (a b c : Bool) → (a || (b || c)) ≡ (a || b || c)
-or-assoc true b c = refl
-or-assoc false b c = refl
 
 rest-before : (es : List TokenizeError) (o : Bool) (r : Lexed) (t : Token) (fs : List TokenizeError) (o′ : Bool) (x : Rest) → restOf r ≡ andThen t fs o′ x
     → restOf (thenLexed [] es o r) ≡ andThen t (es ++ fs) (o || o′) x
