@@ -139,16 +139,28 @@ fn read_back(script: &[u8], run: &Run, used: Used, lexed: &Lexed) -> Result<(), 
 pub const SECONDS: [&str; 12] =
     ["", "a", "\n", "*/", "\"", "\"\"\"", "}", "'", "'a'\n b", "é /* */ $x", "/// d\n\"$a\\u\"", "x\u{FEFF}\r\n0x1F'"];
 
-/// Demand 3: closed exactly if every second joins. `lex` is the lexer asked: the proved one, or the original.
-pub fn joins(script: &[u8], closed: bool, first: &Lexed, lex: impl Fn(&[u8]) -> Result<Lexed, String>) -> Result<(), String> {
+/// The second scripts, lexed.
+pub fn seconds(lex: impl Fn(&[u8]) -> Result<Lexed, String>) -> Vec<Lexed> {
+    SECONDS.iter().map(|second| lex(second.as_bytes()).expect("a second script is accepted")).collect()
+}
+
+/// Demand 3: closed exactly if every second joins. `lex` is the lexer asked, the proved one or the original; `lexed` is what it gives
+/// for the second scripts.
+pub fn joins(
+    script: &[u8],
+    closed: bool,
+    first: &Lexed,
+    lexed: &[Lexed],
+    lex: impl Fn(&[u8]) -> Result<Lexed, String>,
+) -> Result<(), String> {
     let n = script.strip_prefix("\u{FEFF}".as_bytes()).unwrap_or(script).len() as u64;
     let mut all = true;
-    for second in SECONDS {
+    for (second, alone) in SECONDS.iter().zip(lexed) {
         if script.len() + 1 + second.len() > LIMIT {
             continue;
         }
         let whole = [script, b"\n", second.as_bytes()].concat();
-        let same = lex(&whole)? == first.join(&lex(second.as_bytes())?, n);
+        let same = lex(&whole)? == first.join(alone, n);
         if closed && !same {
             return Err(format!("closed, but the second {second:?} does not join"));
         }

@@ -29,7 +29,7 @@ pub fn is_closed(script: &str, lexed: &Lexed) -> Option<bool> {
     if script.len() + 1 + longest > LIMIT {
         return None;
     }
-    Some(check::joins(script.as_bytes(), true, lexed, |s| Ok(oracle::lex(std::str::from_utf8(s).expect("UTF-8")))).is_ok())
+    Some(oracle::joins(script.as_bytes(), true, lexed).is_ok())
 }
 
 fn listing(script: &[u8]) -> Result<String, String> {

@@ -1,6 +1,8 @@
 //! The original lexer: a fresh `Lexer::new`, then `tokenize` and `errors`.
+use crate::check;
 use crate::lexed::{Lexed, Mistake, Span, Token};
 use crate::lexer::Lexer;
+use std::sync::OnceLock;
 
 fn span(s: &crate::span::Span) -> Span {
     [s.start, s.end, s.start_line, s.start_col, s.end_line, s.end_col].map(|n| n as u64)
@@ -44,4 +46,15 @@ pub fn lex(source: &str) -> Lexed {
         })
         .collect();
     Lexed { tokens, errors }
+}
+
+/// The same for bytes that are known to be UTF-8.
+pub fn lex_bytes(script: &[u8]) -> Result<Lexed, String> {
+    std::str::from_utf8(script).map(lex).map_err(|e| e.to_string())
+}
+
+/// Demand 3 asked of the original: whether `closed` is right for the script, of which it gives `first`.
+pub fn joins(script: &[u8], closed: bool, first: &Lexed) -> Result<(), String> {
+    static SECONDS: OnceLock<Vec<Lexed>> = OnceLock::new();
+    check::joins(script, closed, first, SECONDS.get_or_init(|| check::seconds(lex_bytes)), lex_bytes)
 }

@@ -1,10 +1,12 @@
 //! The runs against the original lexer.
 use crate::check::{self, LIMIT};
 use crate::host::{self, Refusal};
+use crate::lexed::Lexed;
 use crate::oracle;
 use crate::scripts::{self, Numbers};
 use std::fs;
 use std::path::Path;
+use std::sync::OnceLock;
 
 fn hex(bytes: &[u8]) -> String {
     bytes.iter().map(|b| format!("{b:02X}")).collect::<Vec<_>>().join(" ")
@@ -18,8 +20,19 @@ pub fn refusal(script: &[u8]) -> Option<Refusal> {
     std::str::from_utf8(script).err().map(|e| Refusal { number: 2, figure: e.valid_up_to() as u64 })
 }
 
-/// Compares one script in everything; `deep` also asks demand 3. Answers whether it was accepted and closed.
-fn compare(script: &[u8], deep: bool) -> Result<Option<bool>, String> {
+fn ours(script: &[u8]) -> Result<Lexed, String> {
+    check::lex(script).map(|r| r.0)
+}
+
+/// Demand 3 of a script, asked of both lexers.
+fn joins(script: &[u8], closed: bool, first: &Lexed) -> Result<(), String> {
+    static SECONDS: OnceLock<Vec<Lexed>> = OnceLock::new();
+    check::joins(script, closed, first, SECONDS.get_or_init(|| check::seconds(ours)), ours)?;
+    oracle::joins(script, closed, first)
+}
+
+/// Compares one script in everything. Answers whether it was accepted and closed.
+fn compare(script: &[u8]) -> Result<Option<bool>, String> {
     if let Some(expected) = refusal(script) {
         let mut buffers = [vec![7; 64], vec![7; 64], vec![7; 64]];
         let [tokens, texts, errors] = &mut buffers;
@@ -29,21 +42,16 @@ fn compare(script: &[u8], deep: bool) -> Result<Option<bool>, String> {
         }
         return Ok(None);
     }
-    let source = std::str::from_utf8(script).expect("it was checked");
-    let theirs = oracle::lex(source);
-    let (ours, used) = check::lex(script)?;
-    if let Some(difference) = ours.difference(&theirs) {
+    let (lexed, used) = check::lex(script)?;
+    if let Some(difference) = lexed.difference(&oracle::lex_bytes(script)?) {
         return Err(difference);
     }
-    if deep {
-        check::joins(script, used.closed, &ours, |s| check::lex(s).map(|r| r.0))?;
-        check::joins(script, used.closed, &theirs, |s| Ok(oracle::lex(std::str::from_utf8(s).expect("joined texts are UTF-8"))))?;
-    }
+    joins(script, used.closed, &lexed)?;
     Ok(Some(used.closed))
 }
 
 /// The smallest input that still differs, by leaving out parts.
-fn shrink(script: &[u8], deep: bool) -> Vec<u8> {
+fn shrink(script: &[u8]) -> Vec<u8> {
     let mut best = script.to_vec();
     let mut size = best.len().div_ceil(2);
     while size > 0 {
@@ -51,7 +59,7 @@ fn shrink(script: &[u8], deep: bool) -> Vec<u8> {
         while at + size <= best.len() {
             let mut less = best.clone();
             less.drain(at..at + size);
-            if compare(&less, deep).is_err() {
+            if compare(&less).is_err() {
                 best = less;
             } else {
                 at += size;
@@ -73,8 +81,8 @@ pub struct Tally {
 
 impl Tally {
     /// Compares a script; a difference ends the run.
-    fn add(&mut self, script: &[u8], deep: bool) -> bool {
-        match compare(script, deep) {
+    fn add(&mut self, script: &[u8]) -> bool {
+        match compare(script) {
             Ok(answer) => {
                 self.scripts += 1;
                 self.bytes += script.len() as u64;
@@ -86,8 +94,8 @@ impl Tally {
                 true
             }
             Err(_) => {
-                let least = shrink(script, deep);
-                let text = compare(&least, deep).expect_err("it still differs");
+                let least = shrink(script);
+                let text = compare(&least).expect_err("it still differs");
                 println!("DIFFERENT: {:?} ({}): {text}", String::from_utf8_lossy(&least), hex(&least));
                 false
             }
@@ -105,7 +113,7 @@ pub fn table() -> bool {
     let mut tally = Tally::default();
     for script in crate::list::SMALL {
         for mark in ["", "\u{FEFF}"] {
-            if !tally.add(format!("{mark}{script}").as_bytes(), true) {
+            if !tally.add(format!("{mark}{script}").as_bytes()) {
                 return false;
             }
         }
@@ -117,7 +125,7 @@ pub fn exhaustive(depth: u32) -> bool {
     let mut tally = Tally::default();
     for d in 0..=depth {
         for script in scripts::all(d) {
-            if !tally.add(script.as_bytes(), d <= 3) {
+            if !tally.add(script.as_bytes()) {
                 return false;
             }
         }
@@ -128,8 +136,8 @@ pub fn exhaustive(depth: u32) -> bool {
 pub fn random(seed: u64, count: u64) -> bool {
     let mut numbers = Numbers::new(seed);
     let mut tally = Tally::default();
-    for i in 0..count {
-        if !tally.add(scripts::random(&mut numbers).as_bytes(), i % 16 == 0) {
+    for _ in 0..count {
+        if !tally.add(scripts::random(&mut numbers).as_bytes()) {
             return false;
         }
     }
@@ -154,14 +162,14 @@ pub fn mutate(seed: u64, count: u64, files: &[&str]) -> bool {
     }
     for text in &texts {
         for at in 0..=text.len().min(4000) {
-            if !tally.add(&text[..at], false) {
+            if !tally.add(&text[..at]) {
                 return false;
             }
         }
         for _ in 0..count {
             let once = scripts::damaged(&mut numbers, text);
             let twice = scripts::damaged(&mut numbers, &once);
-            if !tally.add(&once, false) || !tally.add(&twice, false) {
+            if !tally.add(&once) || !tally.add(&twice) {
                 return false;
             }
         }
@@ -182,7 +190,7 @@ pub fn large(seed: u64) -> bool {
         texts.push(scripts::cut(scripts::import_script(&mut numbers, size), size));
     }
     for text in texts {
-        if !tally.add(text.as_bytes(), false) {
+        if !tally.add(text.as_bytes()) {
             return false;
         }
     }
@@ -225,7 +233,7 @@ pub fn archive(folder: &str) -> bool {
             different += 1;
             continue;
         };
-        match compare(&script, true) {
+        match compare(&script) {
             Err(text) => {
                 println!("different {name}: {text}");
                 different += 1;
