@@ -2,4 +2,4 @@ pub mod Tests
 pub mod Bytes
 pub mod Cuts
 pub mod Reaches
-pub mod Wides
+pub mod Plains

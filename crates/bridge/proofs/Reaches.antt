@@ -9,11 +9,12 @@ use native.Mathlib.Nat.{add-zero}
 use native.Mathlib.Numerals.{add-one}
 use borrow.Author.Tests.{eqb-true, eq-eqb, ne-eqb}
 use Rattle.characters.specs.Choice.{_is_}
-use Rattle.characters.specs.Utf8.{decodeAt, charsAt, width}
+use Rattle.characters.specs.Utf8.{decodeAt, charsAt, width, isValid}
+use Rattle.characters.specs.Check.{badFrom}
 use Rattle.characters.specs.declared.Decoded.the-variants.{Code}
 use Rattle.characters.proofs.Choice.{if-all}
 use Rattle.characters.proofs.Decoding.{placed-code, decode-ascii}
-use Rattle.characters.proofs.Characters.{chars-code}
+use Rattle.characters.proofs.Characters.{chars-code, bad-code}
 use Rattle.characters.proofs.Widths.{width-one}
 use Rattle.spans.specs.declared.Position.{Position}
 use Rattle.rules.specs.Text.{Text, LF}
@@ -85,7 +86,13 @@ next-char s p q c n w e m =
       record {
         chars = chars-code s (p .offset) c n e ∙ ap (λ (i : ℕ). c ∷ charsAt s i) (sym x);
         moved = m;
-        within = record { size = w .size; inside = omega arith; lines = omega arith; columns = omega arith };
+        within = record {
+          size = w .size;
+          inside = omega arith;
+          valid = ap isValid (ap (badFrom s) x ∙ sym (bad-code s (p .offset) c n e)) ∙ w .valid;
+          lines = omega arith;
+          columns = omega arith;
+        };
       },
       omega arith,
     )

@@ -1,27 +1,29 @@
 -- The bridge between the code and the rules. Places of the code are bytes of a text `s`; `charsAt s at` is what the rules see from
 -- a place on.
 use mathlib.Core.Path.{_≡_}
-use mathlib.Core.Bool.{Bool, true}
+use mathlib.Core.Bool.{Bool, true, _&&_, not}
 use mathlib.Core.List.{List, [], _∷_, _++_}
-use mathlib.Core.Logic.{_⊎_}
 use Prim.Native.Nat.{ℕ, _+_, _≤_, _<_}
+use lib.Dec.{leb}
 use lib.ListN.{length}
 use lib.Seq.{slice}
 use Rattle.characters.specs.Choice.{_is_}
-use Rattle.characters.specs.Utf8.{charsAt}
+use Rattle.characters.specs.Utf8.{charsAt, isValid}
+use Rattle.characters.specs.Check.{badFrom}
 use Rattle.spans.specs.declared.Position.{Position}
 use Rattle.rules.specs.Text.{Char, Text}
-use Rattle.rules.specs.Scan.{Part}
+use Rattle.rules.specs.Scan.{Part, run}
 use Rattle.rules.specs.Lexer.{advances}
 use Rattle.bridge.specs.declared.Ahead.{Ahead}
 use Rattle.bridge.specs.declared.Ahead.the-variants as ahead
 
 -- ── Positions ──
 
--- A position in a text of at most 1,048,576 bytes. This makes every sum fit.
+-- A position in a text of at most 1,048,576 bytes, which makes every sum fit, and which is UTF-8 from the position on.
 pub record Within (s : List ℕ) (p : Position) : Type 0 where
   pub size : length s ≤ 1048576
   pub inside : p .offset ≤ length s
+  pub valid : isValid (badFrom s (p .offset)) ≡ true
   pub lines : p .line ≤ p .offset + 1
   pub columns : p .col ≤ p .offset + 2
 
@@ -42,16 +44,21 @@ abbrev pub NextAt : List ℕ → Position → Ahead → Type 0
 NextAt s p (ahead.Char c q) = Reach s p (c ∷ []) q × (p .offset < q .offset)
 NextAt s p ahead.Nothing = charsAt s (p .offset) ≡ []
 
--- Past the character at a position, which is beyond ASCII.
-pub record Wide (s : List ℕ) (p q : Position) : Type 0 where
-  pub char : ℕ
-  pub high : 0x80 ≤ char
-  pub reach : Reach s p (char ∷ []) q
-  pub forth : p .offset < q .offset
+-- A character that moves along its line and is none of three. (The control characters before the line feed are looked at one by one.)
+unfoldable pub isPlain : Char → Char → Char → Char → Bool
+isPlain x y z c = leb 11 c && not (c is x) && not (c is y) && not (c is z)
 
--- The same where the position stays if no character is left.
-abbrev pub WideAt : List ℕ → Position → Position → Type 0
-WideAt s p q = Wide s p q ⊎ ((q ≡ p) × (charsAt s (p .offset) ≡ []))
+-- Three characters of one byte.
+pub record Stops (x y z : Char) : Type 0 where
+  pub first : x ≤ 0x7F
+  pub second : y ≤ 0x7F
+  pub third : z ≤ 0x7F
+
+-- From the position `p` past all characters that pass a test, to the position `q`.
+pub record PastRun (f : Char → Bool) (s : List ℕ) (p q : Position) : Type 0 where
+  pub reach : Reach s p (run f (charsAt s (p .offset)) .taken) q
+  pub left : charsAt s (q .offset) ≡ run f (charsAt s (p .offset)) .left
+  pub forth : p .offset ≤ q .offset
 
 -- ── Words: parts of one line, of one-byte characters ──
 

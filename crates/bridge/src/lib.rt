@@ -1,11 +1,9 @@
 // The bridge between the code and the rules: places of the code are bytes, the rules speak of characters.
 ghost use mathlib.Core.Path.{_≡_};
-ghost use Prim.Native.Nat.{_≤_};
-ghost use lib.ListN.{getD};
 ghost use Rattle.characters.specs.Utf8.{width, charsAt};
 ghost use Rattle.rules.specs.Scan.{next};
 ghost use Rattle.rules.specs.Lexer.{advance};
-ghost use Rattle.bridge.specs.Bridge.{Fits, Letter, exactly, onward, Within, NextAt, WideAt};
+ghost use Rattle.bridge.specs.Bridge.{Fits, Letter, exactly, onward, Within, NextAt, isPlain, Stops, PastRun};
 use characters::Decoded;
 use spans::Position;
 
@@ -36,7 +34,7 @@ pub fn is_at(text: &[u8], at: usize, b: u8) -> bool
 }
 
 // The position after the character c, of n bytes.
-fn past(p: Position, c: u32, n: usize) -> Position
+pub fn past(p: Position, c: u32, n: usize) -> Position
     requires { ⌜ Fits p n ⌝ }
     requires { ⌜ n ≡ width c ⌝ }
     ensures { λ r. ⌜ r ≡ advance p c ⌝ }
@@ -61,7 +59,7 @@ pub fn look(text: &[u8], p: Position) -> Ahead
     ensures { λ r. ⌜ NextAt (now (text .entry)) p r ⌝ }
 {
     let at = p.offset;
-    let d = characters::utf8::decode(text, at);
+    let d = characters::utf8::decode_valid(text, at);
     match d {
         Decoded::Code(c, n) => Ahead::Char(c, past(p, c, n)),
         Decoded::Bad => Ahead::Nothing,
@@ -69,21 +67,39 @@ pub fn look(text: &[u8], p: Position) -> Ahead
     }
 }
 
-// The position after the character at p, which begins with a byte beyond ASCII; p itself where no character is left.
-pub fn past_wide(text: &[u8], p: Position) -> Position
-    requires { ⌜ Within (now text) p ⌝ }
-    requires { ⌜ 128 ≤ getD (now text) (p .offset) 0 ⌝ }
-    ensures { λ r. ⌜ WideAt (now (text .entry)) p r ⌝ }
+// Whether a byte belongs to a character that is passed, where x, y and z are not. Every byte of a character beyond ASCII does.
+fn is_plain(x: u8, y: u8, z: u8, b: u8) -> bool
+    ensures { λ r. ⌜ r ≡ isPlain x y z b ⌝ }
 {
-    let n = characters::utf8::width_at(text, p.offset);
-    if n == 0 {
-        return p;
+    (11 <= b) & !(b == x) & !(b == y) & !(b == z)
+}
+
+// The position after the plain characters at p. It goes byte by byte: each byte but a character's tails is a column.
+pub fn past_plain(text: &[u8], p: Position, x: u8, y: u8, z: u8) -> Position
+    requires { ⌜ Within (now text) p ⌝ }
+    requires { ⌜ Stops x y z ⌝ }
+    ensures { λ r. ⌜ PastRun (isPlain x y z) (now (text .entry)) p r ⌝ }
+{
+    let line = p.line;
+    let mut at = p.offset;
+    let mut col = p.col;
+    while at < text.len() {
+        let b = text[at];
+        if !is_plain(x, y, z, b) {
+            return Position {
+                offset: at,
+                line,
+                col,
+            };
+        }
+        if !characters::utf8::is_tail(b) {
+            col += 1;
+        }
+        at += 1;
     }
-    let offset = p.offset + n;
-    let col = p.col + 1;
     Position {
-        offset,
-        line: p.line,
+        offset: at,
+        line,
         col,
     }
 }

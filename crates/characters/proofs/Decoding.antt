@@ -11,7 +11,7 @@ use lib.Seq.{drop-drop, getD-drop}
 use borrow.Author.Tests.{leb-true, eqb-true, eqb-false}
 use native.Mathlib.Omega.{arith}
 use Rattle.characters.specs.Choice.{within}
-use Rattle.characters.specs.Utf8.{isTail, secondOk, twoOf, threeOf, fourOf, sequence, firstOf, decodeAt, isScalar, width, encodeChar}
+use Rattle.characters.specs.Utf8.{isTail, secondOk, codeTwo, codeThree, codeFour, twoOf, threeOf, fourOf, sequence, firstOf, decodeAt, isScalar, width, encodeChar}
 use Rattle.characters.specs.declared.Decoded.{Decoded}
 use Rattle.characters.specs.declared.Decoded.the-variants.{Code, Bad, End}
 use Rattle.characters.proofs.Choice.{if-all, and-both, le-or-lt, within-bounds, within-yes}

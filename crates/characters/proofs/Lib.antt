@@ -5,6 +5,7 @@ pub mod Buffers
 pub mod Decoding
 pub mod Characters
 pub mod Check
+pub mod Valids
 pub mod Spaces
 pub mod Rooms
 pub mod Marks

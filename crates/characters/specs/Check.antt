@@ -6,8 +6,6 @@ use Prim.Native.Nat.{ℕ, zero, suc, _+_, _≤_}
 use lib.Dec.{ltb}
 use lib.ListN.{length, getD, drop}
 use Rattle.characters.specs.Utf8.{checkPast}
-use Rattle.characters.specs.declared.Decoded.{Decoded}
-use Rattle.characters.specs.declared.Decoded.the-variants.{Code, Bad, End}
 use Rattle.characters.specs.declared.Checked.{Checked}
 use Rattle.characters.specs.declared.Progress.{Progress}
 use Rattle.characters.specs.declared.Progress.the-variants.{Reached, Ended}
@@ -31,9 +29,3 @@ pub record Clean (s : List ℕ) (from to : ℕ) : Type 0 where
 abbrev pub Progressed : List ℕ → ℕ → ℕ → Progress → Type 0
 Progressed s from stop (Reached to) = Clean s from to × (stop ≤ to)
 Progressed s from stop (Ended r) = badFrom s from ≡ r
-
--- How many octets a character takes that was decoded; 0 where there is none.
-unfoldable pub octets : Decoded → ℕ
-octets (Code v n) = n
-octets Bad = 0
-octets End = 0

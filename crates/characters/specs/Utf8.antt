@@ -28,20 +28,26 @@ secondOk a b =
     else if a is 0xF4 then within 0x80 0x8F b
     else isTail b
 
--- UTF8-2, UTF8-3 and UTF8-4 for a first octet in their range, with the code point that the octets stand for (section 3: the
--- bits of the first octet behind its marker, then six bits of each further one) and their number.
+-- The code point that two, three and four octets stand for (section 3: the bits of the first octet behind its marker, then six bits of
+-- each further one), and their number.
+abbrev pub codeTwo : ℕ → ℕ → Decoded
+codeTwo a b = Code ((a - 0xC0) * 64 + (b - 0x80)) 2
+
+abbrev pub codeThree : ℕ → ℕ → ℕ → Decoded
+codeThree a b c = Code ((a - 0xE0) * 4096 + (b - 0x80) * 64 + (c - 0x80)) 3
+
+abbrev pub codeFour : ℕ → ℕ → ℕ → ℕ → Decoded
+codeFour a b c d = Code ((a - 0xF0) * 262144 + (b - 0x80) * 4096 + (c - 0x80) * 64 + (d - 0x80)) 4
+
+-- UTF8-2, UTF8-3 and UTF8-4 for a first octet in their range.
 unfoldable pub twoOf : ℕ → ℕ → Decoded
-twoOf a b = if isTail b then Code ((a - 0xC0) * 64 + (b - 0x80)) 2 else Bad
+twoOf a b = if isTail b then codeTwo a b else Bad
 
 unfoldable pub threeOf : ℕ → ℕ → ℕ → Decoded
-threeOf a b c =
-    if secondOk a b && isTail c then Code ((a - 0xE0) * 4096 + (b - 0x80) * 64 + (c - 0x80)) 3 else Bad
+threeOf a b c = if secondOk a b && isTail c then codeThree a b c else Bad
 
 unfoldable pub fourOf : ℕ → ℕ → ℕ → ℕ → Decoded
-fourOf a b c d =
-    if secondOk a b && isTail c && isTail d
-    then Code ((a - 0xF0) * 262144 + (b - 0x80) * 4096 + (c - 0x80) * 64 + (d - 0x80)) 4
-    else Bad
+fourOf a b c d = if secondOk a b && isTail c && isTail d then codeFour a b c d else Bad
 
 -- UTF8-char = UTF8-1 / UTF8-2 / UTF8-3 / UTF8-4, of four octets. An octet that the text lacks is given as 0, which is no tail.
 --   UTF8-1 = %x00-7F,  UTF8-2 = %xC2-DF UTF8-tail

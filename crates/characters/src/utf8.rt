@@ -1,10 +1,11 @@
 // UTF-8 by RFC 3629: one character at a place of a text, and the first bad sequence of a text.
 ghost use mathlib.Core.Path.{_≡_};
+ghost use mathlib.Core.Bool.{true};
 ghost use Prim.Native.Nat.{_+_, _≤_};
 ghost use lib.ListN.{length, getD, drop};
 ghost use Rattle.characters.specs.Choice as choice;
-ghost use Rattle.characters.specs.Utf8.{isTail, secondOk, twoOf, threeOf, fourOf, sequence, decodeAt, firstBad, badClass};
-ghost use Rattle.characters.specs.Check.{octets, ascii, Clean, Progressed};
+ghost use Rattle.characters.specs.Utf8.{isTail, secondOk, codeTwo, codeThree, codeFour, twoOf, threeOf, fourOf, sequence, decodeAt, firstBad, isValid, badClass};
+ghost use Rattle.characters.specs.Check.{ascii, badFrom, Clean, Progressed};
 use super::Checked;
 use super::Decoded;
 use super::Progress;
@@ -48,6 +49,43 @@ pub fn second_ok(a: u8, b: u8) -> bool
     is_tail(b)
 }
 
+// The characters of two, three and four bytes whose tails are such: the bits of the first byte behind its marker, then six of each.
+fn code_two(a: u8, b: u8) -> Decoded
+    requires { ⌜ 0xC0 ≤ a ⌝ }
+    requires { ⌜ 0x80 ≤ b ⌝ }
+    ensures { λ r. ⌜ r ≡ codeTwo a b ⌝ }
+{
+    Decoded::Code(((a as u32) - 0xC0) * 64 + ((b as u32) - 0x80), 2)
+}
+
+fn code_three(a: u8, b: u8, c: u8) -> Decoded
+    requires { ⌜ 0xE0 ≤ a ⌝ }
+    requires { ⌜ 0x80 ≤ b ⌝ }
+    requires { ⌜ 0x80 ≤ c ⌝ }
+    ensures { λ r. ⌜ r ≡ codeThree a b c ⌝ }
+{
+    Decoded::Code(
+        ((a as u32) - 0xE0) * 4096 + ((b as u32) - 0x80) * 64 + ((c as u32) - 0x80),
+        3,
+    )
+}
+
+fn code_four(a: u8, b: u8, c: u8, d: u8) -> Decoded
+    requires { ⌜ 0xF0 ≤ a ⌝ }
+    requires { ⌜ 0x80 ≤ b ⌝ }
+    requires { ⌜ 0x80 ≤ c ⌝ }
+    requires { ⌜ 0x80 ≤ d ⌝ }
+    ensures { λ r. ⌜ r ≡ codeFour a b c d ⌝ }
+{
+    Decoded::Code(
+        ((a as u32) - 0xF0) * 262144
+            + ((b as u32) - 0x80) * 4096
+            + ((c as u32) - 0x80) * 64
+            + ((d as u32) - 0x80),
+        4,
+    )
+}
+
 // The character of two bytes.
 fn two(a: u8, b: u8) -> Decoded
     requires { ⌜ 0xC2 ≤ a ⌝ }
@@ -55,7 +93,7 @@ fn two(a: u8, b: u8) -> Decoded
     ensures { λ r. ⌜ r ≡ twoOf a b ⌝ }
 {
     if is_tail(b) {
-        Decoded::Code(((a as u32) - 0xC0) * 64 + ((b as u32) - 0x80), 2)
+        code_two(a, b)
     } else {
         Decoded::Bad
     }
@@ -69,10 +107,7 @@ fn three(a: u8, b: u8, c: u8) -> Decoded
 {
     if second_ok(a, b) {
         if is_tail(c) {
-            return Decoded::Code(
-                ((a as u32) - 0xE0) * 4096 + ((b as u32) - 0x80) * 64 + ((c as u32) - 0x80),
-                3,
-            );
+            return code_three(a, b, c);
         }
     }
     Decoded::Bad
@@ -87,13 +122,7 @@ fn four(a: u8, b: u8, c: u8, d: u8) -> Decoded
     if second_ok(a, b) {
         if is_tail(c) {
             if is_tail(d) {
-                return Decoded::Code(
-                    ((a as u32) - 0xF0) * 262144
-                        + ((b as u32) - 0x80) * 4096
-                        + ((c as u32) - 0x80) * 64
-                        + ((d as u32) - 0x80),
-                    4,
-                );
+                return code_four(a, b, c, d);
             }
         }
     }
@@ -177,14 +206,23 @@ fn past_ascii(text: &[u8], from: usize) -> usize
     at
 }
 
-// The check of the sequences from a place on, one by one, until `stop` is reached.
+// The character at a place that has four bytes.
+fn decode_inside(text: &[u8], at: usize) -> Decoded
+    requires { ⌜ at + 4 ≤ length (now text) ⌝ }
+    ensures { λ r. ⌜ r ≡ decodeAt (now (text .entry)) at ⌝ }
+{
+    sequence_of(text[at], text[at + 1], text[at + 2], text[at + 3])
+}
+
+// The check of the sequences from a place on, one by one, until `stop` is reached. Behind `stop` there are three bytes.
 fn past_good(text: &[u8], from: usize, stop: usize) -> Progress
     requires { ⌜ from ≤ length (now text) ⌝ }
+    requires { ⌜ stop + 3 ≤ length (now text) ⌝ }
     ensures { λ r. ⌜ Progressed (now (text .entry)) from stop r ⌝ }
 {
     let mut at = from;
     while at < stop {
-        let d = decode(text, at);
+        let d = decode_inside(text, at);
         match d {
             Decoded::Code(_, n) => {
                 at += n;
@@ -200,14 +238,39 @@ fn past_good(text: &[u8], from: usize, stop: usize) -> Progress
     Progress::Reached(at)
 }
 
+// The check of the sequences from a place on, one by one, up to the end.
+fn past_rest(text: &[u8], from: usize) -> Checked
+    requires { ⌜ from ≤ length (now text) ⌝ }
+    ensures { λ r. ⌜ badFrom (now (text .entry)) from ≡ r ⌝ }
+{
+    let mut at = from;
+    loop {
+        let d = decode(text, at);
+        match d {
+            Decoded::Code(_, n) => {
+                at += n;
+            }
+            Decoded::Bad => {
+                return Checked::BadAt(at);
+            }
+            Decoded::End => {
+                return Checked::Valid;
+            }
+        }
+    }
+}
+
 // The first bad sequence of a text, or none. Blocks of ASCII bytes are passed whole. Where a block is not such, the sequences of
-// about one block are decoded before blocks are tried again.
+// about one block are checked before blocks are tried again.
 pub fn first_bad(text: &[u8]) -> Checked
     ensures { λ r. ⌜ r ≡ firstBad (now (text .entry)) ⌝ }
 {
     let mut at: usize = 0;
     loop {
         let from = past_ascii(text, at);
+        if text.len() - from < 19 {
+            return past_rest(text, from);
+        }
         let p = past_good(text, from, from + 16);
         match p {
             Progress::Reached(to) => {
@@ -220,16 +283,25 @@ pub fn first_bad(text: &[u8]) -> Checked
     }
 }
 
-// How many bytes the character at a place takes; 0 where none stands there.
-pub fn width_at(text: &[u8], at: usize) -> usize
-    ensures { λ r. ⌜ r ≡ octets (decodeAt (now (text .entry)) at) ⌝ }
+// The character at a place of a text that is UTF-8 from there on: its first byte tells how many there are, and none is checked.
+pub fn decode_valid(text: &[u8], at: usize) -> Decoded
+    requires { ⌜ isValid (badFrom (now text) at) ≡ true ⌝ }
+    ensures { λ r. ⌜ r ≡ decodeAt (now (text .entry)) at ⌝ }
 {
-    let d = decode(text, at);
-    match d {
-        Decoded::Code(_, n) => n,
-        Decoded::Bad => 0,
-        Decoded::End => 0,
+    if text.len() <= at {
+        return Decoded::End;
     }
+    let a = text[at];
+    if a <= 0x7F {
+        return Decoded::Code(a as u32, 1);
+    }
+    if a <= 0xDF {
+        return code_two(a, text[at + 1]);
+    }
+    if a <= 0xEF {
+        return code_three(a, text[at + 1], text[at + 2]);
+    }
+    code_four(a, text[at + 1], text[at + 2], text[at + 3])
 }
 
 // The class of the bad sequence at a place of a text.

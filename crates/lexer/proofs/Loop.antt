@@ -1,16 +1,21 @@
--- Laws of the list loop: what is still to be written, one turn, and the end. Assumes nothingUsed.
+-- Laws of the list loop: what is still to be written, one turn, and the end. Assumes nothing.
 use mathlib.Core.Path.{_≡_, refl, sym, _∙_, ap, subst}
 use mathlib.Core.Bool.{Bool, true, false, _&&_, _||_, not}
 use mathlib.Core.List.{List, _∷_, _++_, map}
 use Prim.Native.Nat.{ℕ, _+_, _≤_, _<_, zero-le}
 use native.Mathlib.Nat.{zero-add}
 use native.Mathlib.Omega.{arith}
+use lib.Dec.{leb}
 use lib.ListN.{length, length-map}
 use lib.Seq.{sets}
-use Rattle.characters.specs.Utf8.{charsAt, charsOf}
+use Rattle.characters.specs.Utf8.{charsAt, charsOf, isValid, isUtf8}
+use Rattle.characters.specs.Check.{badFrom}
 use Rattle.characters.specs.Mark.{afterMark}
+use Rattle.characters.proofs.Choice.{and-both}
+use Rattle.characters.proofs.Characters.{bad-start}
+use Rattle.characters.proofs.Marks.{utf8-after-mark}
 use Rattle.rules.specs.Lexer.{tokens, errors, closed}
-use Rattle.rules.specs.Script.{accepted, scriptText, asBytes, scriptTokens, scriptErrors, scriptClosed}
+use Rattle.rules.specs.Script.{LIMIT, accepted, scriptText, asBytes, scriptTokens, scriptErrors, scriptClosed}
 use Rattle.cursor.specs.Cursor.{left}
 use Rattle.records.specs.Records.{tokenRecord}
 use Rattle.records.specs.Layout.{madeText, recordOf, tokenBytesFrom, tokenBytes, textBytes, errorBytes}
@@ -56,10 +61,14 @@ module _ (script : List ℕ) where
   unfolding rest restWithin restOf left charsAt charsOf scriptText scriptClosed closed
   begin-closed = refl
 
+  begin-valid : accepted script ≡ true → isValid (badFrom (afterMark script) 0) ≡ true
+  unfolding accepted isUtf8
+  begin-valid ok = ap isValid (sym (bad-start (afterMark script))) ∙ (utf8-after-mark script ∙ and-both (leb (length script) LIMIT) (isUtf8 script) ok .1)
+
   begin-good : accepted script ≡ true → Good (afterMark script) begin
   begin-good ok =
       let h = text-low script ok in
-      record { at = record { size = h; inside = zero-le; lines = omega arith; columns = omega arith } }
+      record { at = record { size = h; inside = zero-le; valid = begin-valid ok; lines = omega arith; columns = omega arith } }
 
 pub going-start : (script s tokens texts errors : List ℕ) → s ≡ afterMark script → accepted script ≡ true
     → Going script s tokens texts errors tokens texts errors begin nothingUsed

@@ -2,7 +2,6 @@
 use mathlib.Core.Path.{_≡_, refl, sym, _∙_, ap, ap₂, subst}
 use mathlib.Core.Bool.{Bool, true, false}
 use mathlib.Core.List.{List, [], _∷_, _++_, append-assoc, append-nil}
-use mathlib.Core.Logic.{inl, inr}
 use mathlib.Core.Option.{some}
 use Prim.Native.Nat.{ℕ, _+_, _-_, _*_, _≤_, _<_}
 use lib.ListN.{length, take, getD, length-append}
@@ -20,11 +19,10 @@ use Rattle.rules.specs.Tokens.{TokenizeError}
 use Rattle.rules.specs.Lexer.{advances}
 use Rattle.cursor.specs.Strings.{unitOf, stands, unitsMade, unitsErrors, unitsAhead}
 use Rattle.cursor.proofs.Units.{Whole, made-none, errors-none, unit-made, unit-errors, whole-unit, ahead-stops}
-use Rattle.bridge.specs.Bridge.{Within, Reach, Wide, WideAt, Cut, onward, exactly}
+use Rattle.bridge.specs.Bridge.{Within, Reach, PastRun, onward, exactly}
 use Rattle.bridge.proofs.Tests.{low-is}
 use Rattle.bridge.proofs.Bytes.{byte-next}
-use Rattle.bridge.proofs.Cuts.{slice-append}
-use Rattle.bridge.proofs.Reaches.{reach-nil, reach-join, one-on, onward-suc, cut-reach}
+use Rattle.bridge.proofs.Reaches.{reach-nil, reach-join, one-on, onward-suc}
 use Rattle.output.specs.Writing.{Put}
 use Rattle.output.proofs.Buffers.{put-none, put-then}
 use Rattle.walks.proofs.Enclosed.{reach-slice}
@@ -35,10 +33,10 @@ use Rattle.strings.specs.declared.Mistake.the-variants as mistake
 use Rattle.strings.specs.declared.Unit as code
 use Rattle.strings.specs.Escapes.{byteOf, shortEscape}
 use Rattle.strings.specs.Units.{madeBytes, mistakes, UnitAt}
-use Rattle.strings.specs.Runs.{Room, isPlain, runChars, runMade, runErrors, Units, Wrote, RunAt}
+use Rattle.strings.specs.Runs.{Room, runChars, runMade, runErrors, Units, Wrote, RunAt}
 use Rattle.strings.proofs.Letters.{letter-flat, letter-not-u, byte-some}
-use Rattle.strings.proofs.UnitLaws.{plain-unit, escape-char, stands-escape, stands-plain, some-at}
-use Rattle.strings.proofs.RunLaws.{mistakes-few, plain-itself}
+use Rattle.strings.proofs.UnitLaws.{escape-char, stands-escape, some-at}
+use Rattle.strings.proofs.RunLaws.{mistakes-few, itself, plain-itself}
 
 -- ── Rows of units ──
 
@@ -99,42 +97,15 @@ units-unit s p r (h, x) =
 
 -- ── Characters that stand for themselves ──
 
--- Those of one byte, up to the place `to`.
-pub units-plain : (s : List ℕ) (p q : Position) (to : ℕ) → Within s p → Cut s (p .offset) (run isPlain (charsAt s (p .offset))) to
-    → q ≡ onward p (to - p .offset) → Units s p q (slice (p .offset) (q .offset) s) [] × (q .offset ≡ to)
+pub units-plain : (s : List ℕ) (p q : Position) → Within s p → PastRun itself s p q → Units s p q (slice (p .offset) (q .offset) s) []
 unfolding errorBytes
-units-plain s p q to w k x =
-    let c = run isPlain (charsAt s (p .offset)) in
-    let f = k .forth in
-    let n : p .offset + (to - p .offset) ≡ to = omega arith in
-    let r : Reach s p (c .taken) q = rw x (cut-reach s p c (to - p .offset) w (rw n k)) in
-    let o : q .offset ≡ to = ap (λ (z : Position). z .offset) x ∙ n in
-    let i = plain-itself (charsAt s (p .offset)) in (
-      units-whole s p q (c .taken) _ _ (subst (λ (l : Text). Whole (charsAt s (p .offset)) (c .taken) l) (sym (k .left) ∙ rw o) (i .whole)) r
-          (ap encode (i .made) ∙ sym (reach-slice s p q (c .taken) r (w .inside))) (ap errorBytes (i .errors p))
-          (omega (arith, length-slice (p .offset) (q .offset) s (r .within .inside))) (omega arith),
-      o,
-    )
-
--- One beyond ASCII.
-units-wide : (s : List ℕ) (p q : Position) → Within s p → Wide s p q → Units s p q (slice (p .offset) (q .offset) s) []
-unfolding errorBytes
-units-wide s p q w x =
-    let c = x .char in
-    let h = x .high in
-    let k = stands-plain c (charsAt s (q .offset)) (λ e. omega arith) (λ e. omega arith) (λ e. omega arith) (λ e. omega arith) in
-    units-unit s p _ (some-at s p q c (x .reach) _ _ k (plain-unit s p q c w (x .reach) (x .forth)))
-
-pub units-past : (s : List ℕ) (p q : Position) → Within s p → WideAt s p q → (q .offset ≡ p .offset → ⊥)
-    → Units s p q (slice (p .offset) (q .offset) s) [] × (p .offset < q .offset)
-units-past s p q w (inl x) n = (units-wide s p q w x, x .forth)
-units-past s p q w (inr x) n = absurd (n (ap (λ (z : Position). z .offset) (x .0)))
-
-pub units-both : (s : List ℕ) (p q r : Position) → Units s p q (slice (p .offset) (q .offset) s) [] → Units s q r (slice (q .offset) (r .offset) s) []
-    → Units s p r (slice (p .offset) (r .offset) s) []
-units-both s p q r a b =
-    let e = slice-append s (p .offset) (q .offset) (r .offset) (omega (arith, a .small)) (omega (arith, b .small)) (b .reach .within .inside) in
-    rw e (units-join s p q r _ _ [] [] a b)
+units-plain s p q w k =
+    let c = run itself (charsAt s (p .offset)) in
+    let i = plain-itself (charsAt s (p .offset)) in
+    let r = k .reach in
+    units-whole s p q (c .taken) _ _ (subst (λ (l : Text). Whole (charsAt s (p .offset)) (c .taken) l) (sym (k .left)) (i .whole)) r
+    (ap encode (i .made) ∙ sym (reach-slice s p q (c .taken) r (w .inside))) (ap errorBytes (i .errors p))
+    (omega (arith, k .forth, length-slice (p .offset) (q .offset) s (r .within .inside))) (omega (arith, k .forth))
 
 -- ── Escapes of one byte ──
 

@@ -1,16 +1,15 @@
 -- Laws of what one unit writes, and of characters that stand for themselves. Assumes nothing.
 use mathlib.Core.Path.{_≡_, refl, sym, _∙_, ap, ap₂, subst}
-use mathlib.Core.Bool.{Bool, true, false, _&&_, not, true≢false}
+use mathlib.Core.Bool.{Bool, true, false, true≢false}
 use mathlib.Core.List.{List, [], _∷_, _++_}
 use mathlib.Core.Option.{none, some}
 use Prim.Native.Nat.{ℕ, _≤_}
 use lib.ListN.{length, length-append}
 use native.Mathlib.Omega.{arith}
-use Rattle.characters.specs.Choice.{if_then_else_, _is_, within}
-use Rattle.characters.proofs.Choice.{and-both, within-bounds}
+use Rattle.characters.specs.Choice.{if_then_else_}
 use Rattle.spans.specs.declared.Position.{Position}
 use Rattle.spans.specs.declared.Span.{Span}
-use Rattle.rules.specs.Text.{Char, Text}
+use Rattle.rules.specs.Text.{Char, Text, ch}
 use Rattle.rules.specs.Scan.{run, takes, nothing}
 use Rattle.rules.specs.Tables.{BadUnicodeEscape, BadEscape}
 use Rattle.rules.specs.Tokens.{TokenizeError}
@@ -18,7 +17,7 @@ use Rattle.rules.specs.Lexer.{advances, span}
 use Rattle.cursor.specs.Strings.{Unit as StringUnit, plainUnit, unitOf, stands, unitErrors, unitsMade, unitsErrors}
 use Rattle.cursor.proofs.Units.{Whole, made-none, errors-none, whole-none, unit-made, unit-errors, whole-unit, whole-join}
 use Rattle.records.specs.Records.{errorRecord}
-use Rattle.bridge.specs.Bridge.{Low, onward}
+use Rattle.bridge.specs.Bridge.{onward, isPlain}
 use Rattle.output.specs.Writing.{Put}
 use Rattle.walks.proofs.Errors.{put-one, errors-size}
 use Rattle.strings.specs.declared.Made.{Made}
@@ -26,7 +25,6 @@ use Rattle.strings.specs.declared.Mistake.{Mistake}
 use Rattle.strings.specs.declared.Mistake.the-variants as mistake
 use Rattle.records.specs.Layout.{codeOf, errorBytes}
 use Rattle.strings.specs.Units.{madeBytes, spanBehind, mistakes}
-use Rattle.strings.specs.Runs.{isPlain}
 use Rattle.strings.proofs.UnitLaws.{no-error, stands-plain}
 
 -- ── Errors as bytes ──
@@ -65,18 +63,15 @@ module _ (old new : List ℕ) (at r : ℕ) (p : Position) where
 
 -- ── Characters that stand for themselves ──
 
-pub plain-low : Low 11 isPlain
+-- A character that stands for itself whatever follows it: no control character up to the line feed, quote, dollar sign or backslash.
+abbrev pub itself : Char → Bool
+itself = isPlain (ch "\"") (ch "$") (ch "\\")
+
+plain-not : (c d : ℕ) → itself c ≡ true → itself d ≡ false → c ≡ d → ⊥
+plain-not c d e f x = true≢false (sym e ∙ (ap itself x ∙ f))
+
+plain-stands : (c : Char) (cs : Text) → itself c ≡ true → (stands (c ∷ cs) ≡ true) × (unitOf (c ∷ cs) ≡ plainUnit c)
 unfolding isPlain
-plain-low c e =
-    let a = and-both (within 11 0x7F c && not (c is 34) && not (c is 36)) (not (c is 92)) e in
-    let b = and-both (within 11 0x7F c && not (c is 34)) (not (c is 36)) (a .0) in
-    within-bounds 11 0x7F c (and-both (within 11 0x7F c) (not (c is 34)) (b .0) .0)
-
-plain-not : (c d : ℕ) → isPlain c ≡ true → isPlain d ≡ false → c ≡ d → ⊥
-plain-not c d e f x = true≢false (sym e ∙ (ap isPlain x ∙ f))
-
-plain-stands : (c : Char) (cs : Text) → isPlain c ≡ true → (stands (c ∷ cs) ≡ true) × (unitOf (c ∷ cs) ≡ plainUnit c)
-unfolding isPlain within
 plain-stands c cs e =
     stands-plain c cs (plain-not c 10 e refl) (plain-not c 34 e refl) (plain-not c 92 e refl) (plain-not c 36 e refl)
 
@@ -90,7 +85,7 @@ itself-none : (cs : Text) → Itself cs [] cs
 itself-none cs = record { whole = whole-none cs; made = made-none cs; errors = λ p. errors-none p cs }
 
 -- One such character.
-module _ (c : Char) (cs : Text) (e : isPlain c ≡ true) where
+module _ (c : Char) (cs : Text) (e : itself c ≡ true) where
   unit-is : unitOf (c ∷ cs) ≡ plainUnit c
   unit-is = plain-stands c cs e .1
 
@@ -119,12 +114,12 @@ itself-join cs t mid u rest a b =
       errors = λ p. rw n (a .whole .errors-more (length u) p ∙ ap₂ (λ (v w : List TokenizeError). v ++ w) (a .errors p) (b .errors (advances p t)));
     }
 
-pub plain-itself : (cs : Text) → Itself cs (run isPlain cs .taken) (run isPlain cs .left)
+pub plain-itself : (cs : Text) → Itself cs (run itself cs .taken) (run itself cs .left)
 unfolding run
 plain-itself [] = itself-none []
-plain-itself (c ∷ cs) = go (isPlain c) refl (plain-itself cs)
+plain-itself (c ∷ cs) = go (itself c) refl (plain-itself cs)
   where
-    go : (b : Bool) → isPlain c ≡ b → Itself cs (run isPlain cs .taken) (run isPlain cs .left)
-        → Itself (c ∷ cs) ((if b then takes c (run isPlain cs) else nothing (c ∷ cs)) .taken) ((if b then takes c (run isPlain cs) else nothing (c ∷ cs)) .left)
-    go true e y = itself-join (c ∷ cs) (c ∷ []) cs (run isPlain cs .taken) (run isPlain cs .left) (itself-one c cs e) y
+    go : (b : Bool) → itself c ≡ b → Itself cs (run itself cs .taken) (run itself cs .left)
+        → Itself (c ∷ cs) ((if b then takes c (run itself cs) else nothing (c ∷ cs)) .taken) ((if b then takes c (run itself cs) else nothing (c ∷ cs)) .left)
+    go true e y = itself-join (c ∷ cs) (c ∷ []) cs (run itself cs .taken) (run itself cs .left) (itself-one c cs e) y
     go false e y = itself-none (c ∷ cs)

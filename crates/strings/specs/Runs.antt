@@ -1,13 +1,12 @@
 -- What a row of units promises.
 use mathlib.Core.Path.{_≡_}
-use mathlib.Core.Bool.{Bool, false, _&&_, not}
+use mathlib.Core.Bool.{false}
 use mathlib.Core.List.{List, [], _++_}
 use Prim.Native.Nat.{ℕ, _+_, _*_, _≤_}
 use lib.ListN.{length, take}
-use Rattle.characters.specs.Choice.{_is_, within}
 use Rattle.characters.specs.Utf8.{charsAt, encode}
 use Rattle.spans.specs.declared.Position.{Position}
-use Rattle.rules.specs.Text.{Char, Text, ch}
+use Rattle.rules.specs.Text.{Text}
 use Rattle.rules.specs.Tokens.{TokenizeError}
 use Rattle.cursor.specs.Strings.{stands, unitsMade, unitsErrors, unitsAhead}
 use Rattle.bridge.specs.Bridge.{Reach}
@@ -19,10 +18,6 @@ use Rattle.records.specs.Layout.{errorBytes}
 pub record Room (ut ue : ℕ) : Type 0 where
   pub texts : ut ≤ 1099511627776
   pub errors : ue ≤ 1099511627776
-
--- A character of one byte that stands for itself in a string, whatever follows it. (Those beyond ASCII do, too.)
-unfoldable pub isPlain : Char → Bool
-isPlain c = within 11 0x7F c && not (c is ch "\"") && not (c is ch "$") && not (c is ch "\\")
 
 -- The characters from a position on that belong to the units there, what these make, and their errors.
 abbrev pub runChars : List ℕ → Position → Text

@@ -25,7 +25,7 @@ fn past_interpolation(text: &[u8], p: Position) -> Closing
     let from = p.offset;
     let at = from + 1;
     if bridge::is_at(text, at, 123) {
-        let c = walk::to_brace(text, bridge::along(p, 2));
+        let c = walk::to_byte(text, bridge::along(p, 2), 125);
         let found = c.found;
         return Closing {
             at: walk::behind_mark(c, 1),

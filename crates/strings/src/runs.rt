@@ -1,17 +1,12 @@
 // The units of a string up to where none stands, written while they are scanned.
-ghost use mathlib.Core.Path.{_≡_};
-ghost use mathlib.Core.List.{[]};
 ghost use Prim.Native.Nat.{_≤_};
 ghost use lib.ListN.{length};
-ghost use lib.Seq.{slice};
-ghost use Rattle.characters.specs.Utf8.{charsAt};
-ghost use Rattle.rules.specs.Scan.{run};
 ghost use Rattle.records.specs.Records.{errorRecord};
-ghost use Rattle.bridge.specs.Bridge.{Within, Fits, Cut};
+ghost use Rattle.bridge.specs.Bridge.{Within, Fits};
 ghost use Rattle.output.specs.Writing.{Put};
 ghost use Rattle.records.specs.Layout.{errorBytes};
 ghost use Rattle.strings.specs.Units.{madeBytes, IsChar, spanBehind, mistakes};
-ghost use Rattle.strings.specs.Runs.{Room, isPlain, Units, Wrote, RunAt};
+ghost use Rattle.strings.specs.Runs.{Room, Wrote, RunAt};
 use super::Found;
 use super::Made;
 use super::Mistake;
@@ -19,7 +14,6 @@ use super::Run;
 use super::Written;
 use super::escapes;
 use super::units;
-use characters::utf8;
 use spans::Position;
 use walks::error;
 
@@ -70,48 +64,6 @@ pub fn put_mistake(p: Position, mistake: Mistake, errors: &mut [u8], at: usize) 
     }
 }
 
-// Whether a byte is a character that stands for itself in a string.
-fn is_plain(b: u8) -> bool
-    ensures { λ r. ⌜ r ≡ isPlain b ⌝ }
-{
-    (11 <= b) & (b <= 127) & !(b == 34) & !(b == 36) & !(b == 92)
-}
-
-// The end of such characters at a place.
-pub fn plain_end(text: &[u8], from: usize) -> usize
-    requires { ⌜ from ≤ length (now text) ⌝ }
-    ensures { λ r. ⌜ Cut (now (text .entry)) from (run isPlain (charsAt (now (text .entry)) from)) r ⌝ }
-{
-    let mut at = from;
-    while at < text.len() {
-        if !is_plain(text[at]) {
-            return at;
-        }
-        at += 1;
-    }
-    at
-}
-
-// The position after the characters from p on that stand for themselves, those beyond ASCII with them.
-pub fn past_plain(text: &[u8], p: Position) -> Position
-    requires { ⌜ Within (now text) p ⌝ }
-    ensures { λ r. ⌜ Units (now (text .entry)) p r (slice (p .offset) (r .offset) (now (text .entry))) [] ⌝ }
-{
-    let mut at = p;
-    loop {
-        let from = at.offset;
-        let to = plain_end(text, from);
-        let q = bridge::along(at, to - from);
-        if utf8::byte_at(text, to) < 128 {
-            return q;
-        }
-        at = bridge::past_wide(text, q);
-        if at.offset == to {
-            return q;
-        }
-    }
-}
-
 // Writes the escapes of one byte from p on.
 fn put_escapes(text: &[u8], p: Position, texts: &mut [u8], used_texts: usize) -> Written
     requires { ⌜ Within (now text) p ⌝ }
@@ -131,7 +83,7 @@ fn put_escapes(text: &[u8], p: Position, texts: &mut [u8], used_texts: usize) ->
 }
 
 // Writes the characters that stand for themselves and the escapes of one byte, from p on.
-pub fn put_simple(text: &[u8], p: Position, texts: &mut [u8], used_texts: usize) -> Written
+fn put_simple(text: &[u8], p: Position, texts: &mut [u8], used_texts: usize) -> Written
     requires { ⌜ Within (now text) p ⌝ }
     requires { ⌜ «used_texts» ≤ 1099512676352 ⌝ }
     ensures { λ r. ⌜ Wrote (now (text .entry)) p (r .at) (now (texts .entry)) (now (texts .exit)) «used_texts» (r .texts) ⌝ }
@@ -140,7 +92,7 @@ pub fn put_simple(text: &[u8], p: Position, texts: &mut [u8], used_texts: usize)
     let mut made = used_texts;
     loop {
         let from = at.offset;
-        let q = past_plain(text, at);
+        let q = bridge::past_plain(text, at, 34, 36, 92);
         let to = q.offset;
         let part = output::put_part(text, from, to, texts, made);
         let w = put_escapes(text, q, texts, part);

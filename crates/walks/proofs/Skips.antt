@@ -2,15 +2,18 @@
 use mathlib.Core.Path.{_≡_, refl, sym, _∙_, ap, ap₂, subst}
 use mathlib.Core.Bool.{Bool, true, false, not, false≢true}
 use mathlib.Core.List.{List, [], _∷_}
-use mathlib.Core.Logic.{inl, inr, ⊎-elim}
+use mathlib.Core.Logic.{inl, ⊎-elim}
 use Prim.Native.Nat.{ℕ, _-_, _≤_, _<_}
+use lib.ListN.{length, getD, List·getD-eq-default}
 use native.Mathlib.Omega.{arith}
 use borrow.Author.Tests.{eqb-true, eqb-false, eq-eqb, ne-eqb}
-use Rattle.characters.specs.Choice.{if_then_else_, _is_}
+use Rattle.characters.specs.Choice.{if_then_else_, _is_, within}
 use Rattle.characters.specs.Space.{isWhite}
 use Rattle.characters.specs.Utf8.{charsAt}
-use Rattle.characters.proofs.Choice.{if-all, within-bounds}
-use Rattle.characters.proofs.Spaces.{white-alone, white-ink}
+use Rattle.characters.proofs.Choice.{if-all, le-or-lt}
+use Rattle.characters.proofs.Decoding.{decode-ascii}
+use Rattle.characters.proofs.Characters.{chars-ascii, chars-past}
+use Rattle.characters.proofs.Spaces.{white-alone}
 use Rattle.spans.specs.declared.Position.{Position}
 use Rattle.rules.specs.Text.{Char, Text, LF}
 use Rattle.rules.specs.Scan.{next, Part, run, takes, nothing}
@@ -21,12 +24,14 @@ use Rattle.cursor.specs.Cursor.{andThen, left, Yields}
 use Rattle.cursor.specs.declared.Cursor.the-variants.{Outside}
 use Rattle.cursor.proofs.Steps.{skips-white}
 use Rattle.bridge.specs.Bridge.{Within, Reach, Low, exactly, Cut, onward}
-use Rattle.bridge.proofs.Tests.{low-is, low-within}
+use Rattle.bridge.proofs.Tests.{low-is}
+use Rattle.bridge.proofs.Bytes.{next-test}
+use Rattle.bridge.proofs.Reaches.{next-char}
 use Rattle.output.specs.Writing.{Put}
 use Rattle.records.specs.Layout.{errorBytes}
 use Rattle.walks.specs.Errors.{unclosed}
 use Rattle.walks.specs.Segments.{segmentAt, errorsAt}
-use Rattle.walks.specs.Skips.{opensLine, opensBlock, isSkipped, isInk, WhiteAt, PastComment, SkippedAt}
+use Rattle.walks.specs.Skips.{opensLine, opensBlock, isSkipped, SomeWhite, WhiteAt, PastComment, SkippedAt}
 use Rattle.walks.specs.declared.Closing.{Closing}
 use Rattle.walks.proofs.Errors.{closed-none, put-no, unclosed-size}
 use Rattle.walks.proofs.Segments.{segment-yields}
@@ -78,7 +83,7 @@ module _ (s : List ℕ) (p q : Position) (c : ℕ) (r : Reach s p (c ∷ []) q) 
           let v = r .within in
           let f = ap {B = Position} (λ (x : Position). record { offset = x .offset; line = x .line; col = 2 }) moved-is in
           subst (λ (x : Position). Within s x) (f ∙ skip-feed p c (eqb-true c LF e))
-          (record { size = v .size; inside = v .inside; lines = v .lines; columns = omega arith })
+          (record { size = v .size; inside = v .inside; valid = v .valid; lines = v .lines; columns = omega arith })
       go false e = subst (λ (x : Position). Within s x) (moved-is ∙ skip-other p c (eqb-false c LF e)) (r .within)
 
   pub behind-offset : skip p c .offset ≡ q .offset
@@ -108,23 +113,10 @@ gap-white s p q g e = record { yields = g .yields; stops = e; within = g .within
 pub white-is-gap : (s : List ℕ) (p q : Position) → WhiteAt s p q → Gap s p q
 white-is-gap s p q w = record { yields = w .yields; within = w .within; forth = w .forth }
 
--- ── Blanks, and what is plainly no white space ──
+-- ── Blanks ──
 
 pub blank-low : Low 11 (exactly 32)
 blank-low = low-is 11 32 (omega arith) (omega arith)
-
-pub ink-low : Low 1 isInk
-unfolding isInk
-ink-low = low-within 1 0x21 0x7F (omega arith) (omega arith)
-
-ink-white : (c : Char) → isInk c ≡ true → isWhite c ≡ false
-unfolding isInk
-ink-white c e = white-ink c e
-
-ink-next : (cs : Text) → next isInk cs ≡ true → next isWhite cs ≡ false
-unfolding next
-ink-next [] e = refl
-ink-next (c ∷ cs) e = ink-white c e
 
 -- From `p` nothing is yielded where the part `a` of a text is taken.
 abbrev Passed : Position → Text → Part → Type 0
@@ -154,11 +146,54 @@ module _ (s : List ℕ) (f p : Position) (g : Gap s f p) (to : ℕ) (q : Positio
         forth = omega (arith, k .forth, ap (λ (z : Position). z .offset) x);
       })
 
-  -- The test `b` says whether what stands behind them is plainly no white space.
-  pub ink-stops : (b : Bool) → b ≡ next isInk (charsAt s to) → b ≡ true → WhiteAt s f q
-  ink-stops b e t =
-      let l = cut-onward s p (run (exactly 32) (charsAt s (p .offset))) to q (g .within) k x .1 in
-      gap-white s f q gap-blanks (ap (next isWhite) (l ∙ sym (k .left)) ∙ ink-next (charsAt s to) (sym e ∙ t))
+  pub blanks-place : q .offset ≡ to
+  blanks-place = let f₁ = k .forth in ap (λ (z : Position). z .offset) x ∙ omega arith
+
+  -- Where none stands behind them.
+  pub blanks-end : next isWhite (charsAt s (q .offset)) ≡ false → WhiteAt s f q
+  blanks-end e = gap-white s f q gap-blanks e
+
+-- ── White space of one byte, and beyond ASCII ──
+
+pub some-gap : (s : List ℕ) (p q : Position) → SomeWhite s p q → Gap s p q
+some-gap s p q x = record { yields = x .yields; within = x .within; forth = x .forth }
+
+pub gap-some : (s : List ℕ) (p q : Position) → Gap s p q → (q .offset ≡ p .offset → next isWhite (charsAt s (p .offset)) ≡ false) → SomeWhite s p q
+gap-some s p q g e = record { yields = g .yields; stops = e; within = g .within; forth = g .forth }
+
+white-zero : (c : ℕ) → c ≡ 0 → isWhite c ≡ false
+unfolding isWhite within
+white-zero c e = rw e
+
+module _ (s : List ℕ) (p : Position) (w : Within s p) (l : getD s (p .offset) 0 ≤ 0x7F) where
+  abbrev byte : ℕ
+  byte = getD s (p .offset) 0
+
+  end-none : length s ≤ p .offset → isWhite byte ≡ false
+  end-none h = white-zero byte (List·getD-eq-default s 0 h)
+
+  pub byte-none : isWhite byte ≡ false → next isWhite (charsAt s (p .offset)) ≡ false
+  unfolding next
+  byte-none e =
+      ⊎-elim (λ h. ap (next isWhite) (chars-past s (p .offset) h)) (λ h. ap (next isWhite) (chars-ascii s (p .offset) h l) ∙ e)
+      (le-or-lt (length s) (p .offset))
+
+  pub byte-reach : (q : Position) → isWhite byte ≡ true → q ≡ advance p byte → Reach s p (byte ∷ []) q × (p .offset < q .offset)
+  byte-reach q t m =
+      ⊎-elim (λ h. absurd (false≢true (sym (end-none h) ∙ t)))
+      (λ h. next-char s p q byte 1 w (decode-ascii s (p .offset) h l) m)
+      (le-or-lt (length s) (p .offset))
+
+module _ (s : List ℕ) (p q : Position) (c : ℕ) (r : Reach s p (c ∷ []) q) (l : 0x80 ≤ getD s (p .offset) 0) where
+  wide-feed : c ≡ LF → ⊥
+  unfolding next
+  wide-feed e =
+      let n : next (exactly LF) (charsAt s (p .offset)) ≡ true = ap (next (exactly LF)) (r .chars) ∙ eq-eqb c LF e in
+      let b : getD s (p .offset) 0 ≡ LF = eqb-true (getD s (p .offset) 0) LF (next-test (exactly LF) (low-is 1 LF (omega arith) (omega arith)) s (p .offset) true n) in
+      omega arith
+
+  pub wide-gap : isWhite c ≡ true → p .offset < q .offset → Gap s p q
+  wide-gap t h = subst (Gap s p) (sym (moved-is s p q c r ∙ skip-other p c wide-feed)) (white-gap s p q c r t h)
 
 -- ── Comments ──
 

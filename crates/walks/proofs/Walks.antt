@@ -3,18 +3,19 @@ use mathlib.Core.Path.{_≡_, refl, sym, _∙_, ap}
 use mathlib.Core.Bool.{Bool, true, false, _&&_, not}
 use mathlib.Core.List.{List, [], _∷_, _++_}
 use Prim.Native.Nat.{ℕ, _+_, _-_}
+use lib.Dec.{leb}
 use native.Mathlib.Omega.{arith}
 use borrow.Author.Tests.{not-true}
-use Rattle.characters.specs.Choice.{if_then_else_, _is_, within}
+use Rattle.characters.specs.Choice.{if_then_else_, _is_}
 use Rattle.characters.specs.Utf8.{charsAt}
-use Rattle.characters.proofs.Choice.{and-both, within-bounds}
+use Rattle.characters.proofs.Choice.{and-both}
 use Rattle.spans.specs.declared.Position.{Position}
 use Rattle.rules.specs.Text.{Char, Text, LF}
 use Rattle.rules.specs.Scan.{startsWith, takes, nothing, Part, run, passes, Upto, upTo}
 use Rattle.rules.specs.Comments.{notLF}
-use Rattle.bridge.specs.Bridge.{Within, Reach, Low, Cut, onward}
+use Rattle.bridge.specs.Bridge.{Within, Reach, Letter, Cut, onward, isPlain, Stops, PastRun}
 use Rattle.bridge.proofs.Reaches.{reach-nil, reach-join, cut-reach}
-use Rattle.walks.specs.Walks.{isPlain, UpToAt}
+use Rattle.walks.specs.Walks.{UpToAt}
 use Rattle.walks.specs.declared.Closing.{Closing}
 
 -- ── The rule ──
@@ -46,27 +47,30 @@ run-upTo (c ∷ cs) = go (c is LF) (run-upTo cs)
 
 -- ── Plain characters ──
 
-pub plain-low : (stop : Char) → Low 11 (isPlain stop)
-unfolding isPlain
-plain-low stop c e = within-bounds 11 0x7F c (and-both (within 11 0x7F c) (not (c is stop)) e .0)
+-- What a walk to a mark passes together, where `stop` begins the mark.
+abbrev pub plainTo : Char → Char → Bool
+plainTo stop = isPlain stop stop stop
+
+pub same-stops : (stop : Char) → Letter stop → Stops stop stop stop
+same-stops stop l = record { first = l .1; second = l .1; third = l .1 }
 
 -- No mark that begins with `stop` begins at such a character.
-plain-starts : (stop : Char) (ms : Text) (c : Char) (cs : Text) → isPlain stop c ≡ true → startsWith (stop ∷ ms) (c ∷ cs) ≡ false
+plain-starts : (stop : Char) (ms : Text) (c : Char) (cs : Text) → plainTo stop c ≡ true → startsWith (stop ∷ ms) (c ∷ cs) ≡ false
 unfolding isPlain startsWith
-plain-starts stop ms c cs e = rw (not-true (c is stop) (and-both (within 11 0x7F c) (not (c is stop)) e .1))
+plain-starts stop ms c cs e = rw (not-true (c is stop) (and-both (leb 11 c && not (c is stop) && not (c is stop)) (not (c is stop)) e .1))
 
 -- A part in front of what stands before a mark.
 abbrev passesAll : Text → Upto → Upto
 passesAll t u = record { before = t ++ u .before; open-end = u .open-end }
 
-upTo-plain : (m : Char) (ms cs : Text) → upTo (m ∷ ms) cs ≡ passesAll (run (isPlain m) cs .taken) (upTo (m ∷ ms) (run (isPlain m) cs .left))
+upTo-plain : (m : Char) (ms cs : Text) → upTo (m ∷ ms) cs ≡ passesAll (run (plainTo m) cs .taken) (upTo (m ∷ ms) (run (plainTo m) cs .left))
 unfolding run
 upTo-plain m ms [] = refl
-upTo-plain m ms (c ∷ cs) = go (isPlain m c) refl (upTo-plain m ms cs)
+upTo-plain m ms (c ∷ cs) = go (plainTo m c) refl (upTo-plain m ms cs)
   where
-    go : (b : Bool) → isPlain m c ≡ b → upTo (m ∷ ms) cs ≡ passesAll (run (isPlain m) cs .taken) (upTo (m ∷ ms) (run (isPlain m) cs .left))
-        → upTo (m ∷ ms) (c ∷ cs) ≡ passesAll ((if b then takes c (run (isPlain m) cs) else nothing (c ∷ cs)) .taken)
-        (upTo (m ∷ ms) ((if b then takes c (run (isPlain m) cs) else nothing (c ∷ cs)) .left))
+    go : (b : Bool) → plainTo m c ≡ b → upTo (m ∷ ms) cs ≡ passesAll (run (plainTo m) cs .taken) (upTo (m ∷ ms) (run (plainTo m) cs .left))
+        → upTo (m ∷ ms) (c ∷ cs) ≡ passesAll ((if b then takes c (run (plainTo m) cs) else nothing (c ∷ cs)) .taken)
+        (upTo (m ∷ ms) ((if b then takes c (run (plainTo m) cs) else nothing (c ∷ cs)) .left))
     go true e y = upTo-on (m ∷ ms) c cs (plain-starts m ms c cs e) ∙ ap (passes c) y
     go false e y = refl
 
@@ -106,17 +110,16 @@ cut-onward s p a to q w k x =
 abbrev pub Walking : Text → List ℕ → Position → Position → Type 0
 Walking mark s from at = Within s at × ((k : Closing) → UpToAt mark s at k → UpToAt mark s from k)
 
--- Plain characters from where the loop stands, up to the place `to`.
-pub walking-on : (m : Char) (ms : Text) (s : List ℕ) (from at : Position) → Walking (m ∷ ms) s from at → (to : ℕ) (q : Position)
-    → Cut s (at .offset) (run (isPlain m) (charsAt s (at .offset))) to → q ≡ onward at (to - at .offset) → Walking (m ∷ ms) s from q
-walking-on m ms s from at (w, more) to q k x =
-    let c = run (isPlain m) (charsAt s (at .offset)) in
-    let (r, l) = cut-onward s at c to q w k x in
+-- Past plain characters from where the loop stands.
+pub walking-on : (m : Char) (ms : Text) (s : List ℕ) (from at : Position) → Walking (m ∷ ms) s from at → (q : Position)
+    → PastRun (plainTo m) s at q → Walking (m ∷ ms) s from q
+walking-on m ms s from at (w, more) q k =
+    let c = run (plainTo m) (charsAt s (at .offset)) in
     let u : upTo (m ∷ ms) (charsAt s (at .offset)) ≡ passesAll (c .taken) (upTo (m ∷ ms) (charsAt s (q .offset))) =
-    upTo-plain m ms (charsAt s (at .offset)) ∙ ap (λ (t : Text). passesAll (c .taken) (upTo (m ∷ ms) t)) (sym l) in
+    upTo-plain m ms (charsAt s (at .offset)) ∙ ap (λ (t : Text). passesAll (c .taken) (upTo (m ∷ ms) t)) (sym (k .left)) in
     let on : (y : Closing) → UpToAt (m ∷ ms) s q y → UpToAt (m ∷ ms) s at y =
     λ y z. record {
-      reach = rw u (reach-join s at q (y .at) (c .taken) (upTo (m ∷ ms) (charsAt s (q .offset)) .before) r (z .reach));
+      reach = rw u (reach-join s at q (y .at) (c .taken) (upTo (m ∷ ms) (charsAt s (q .offset)) .before) (k .reach) (z .reach));
       same = rw u (z .same);
     } in
-    (r .within, λ y z. more y (on y z))
+    (k .reach .within, λ y z. more y (on y z))

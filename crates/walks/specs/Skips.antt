@@ -3,7 +3,6 @@ use mathlib.Core.Path.{_≡_}
 use mathlib.Core.Bool.{Bool, true, false, _&&_, not}
 use mathlib.Core.List.{List, [], _∷_}
 use Prim.Native.Nat.{ℕ, _+_, _*_, _-_, _≤_, _<_}
-use Rattle.characters.specs.Choice.{within}
 use Rattle.characters.specs.Space.{isWhite}
 use Rattle.characters.specs.Utf8.{charsAt}
 use Rattle.spans.specs.declared.Position.{Position}
@@ -52,9 +51,12 @@ unfoldable pub isSkipped : Text → Bool
 isSkipped [] = false
 isSkipped (c ∷ cs) = isSkippedSort (segment (c ∷ cs) .sort)
 
--- A character of one byte that is no white space. (Control characters and longer characters may be none, too: they are looked at.)
-unfoldable pub isInk : Char → Bool
-isInk c = within 0x21 0x7F c
+-- White space from `p` to `q`: it yields nothing. There is none only where none stands at `p`.
+pub record SomeWhite (s : List ℕ) (p q : Position) : Type 0 where
+  pub yields : Yields (Outside p) (charsAt s (p .offset)) [] [] false (Outside q) (charsAt s (q .offset))
+  pub stops : q .offset ≡ p .offset → next isWhite (charsAt s (p .offset)) ≡ false
+  pub within : Within s q
+  pub forth : p .offset ≤ q .offset
 
 -- White space from `p` to `q`, behind which there is no more: it yields nothing.
 pub record WhiteAt (s : List ℕ) (p q : Position) : Type 0 where

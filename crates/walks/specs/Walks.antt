@@ -24,11 +24,6 @@ brace = text "}"
 abbrev pub feed : Text
 feed = LF ∷ []
 
--- A character of one byte that is neither a line feed nor `stop`, with which a mark begins: the mark does not begin there. (The
--- control characters before the line feed are such, too, and so are longer characters: they are looked at one by one.)
-unfoldable pub isPlain : Char → Char → Bool
-isPlain stop c = within 11 0x7F c && not (c is stop)
-
 -- From `p` the walk passes what stands before the mark, and says whether the mark was found.
 pub record UpToAt (mark : Text) (s : List ℕ) (p : Position) (c : Closing) : Type 0 where
   pub reach : Reach s p (upTo mark (charsAt s (p .offset)) .before) (c .at)

@@ -1,12 +1,12 @@
 // White space and the comments that are skipped.
 ghost use mathlib.Core.Path.{_≡_};
 ghost use Prim.Native.Nat.{_≤_};
-ghost use lib.ListN.{length};
+ghost use lib.ListN.{length, getD};
 ghost use Rattle.characters.specs.Utf8.{charsAt};
-ghost use Rattle.rules.specs.Scan.{next, run};
+ghost use Rattle.rules.specs.Scan.{run};
 ghost use Rattle.rules.specs.Lexer as rules;
 ghost use Rattle.bridge.specs.Bridge.{Within, Cut, exactly};
-ghost use Rattle.walks.specs.Skips.{isInk, opensLine, opensBlock, WhiteAt, CommentAt, SkippedAt};
+ghost use Rattle.walks.specs.Skips.{opensLine, opensBlock, SomeWhite, WhiteAt, CommentAt, SkippedAt};
 use super::Closing;
 use super::Comment;
 use super::Skipped;
@@ -14,6 +14,8 @@ use super::ahead;
 use super::error;
 use super::walk;
 use bridge::Ahead;
+use characters::space;
+use characters::utf8;
 use spans::Position;
 
 // The position behind the white space c at p, where q is the position behind it as in any other place.
@@ -46,16 +48,46 @@ fn past_blanks(text: &[u8], from: usize) -> usize
     at
 }
 
-// Whether a character of one byte that is no white space stands at a place.
-fn is_ink(text: &[u8], at: usize) -> bool
-    ensures { λ r. ⌜ r ≡ next isInk (charsAt (now (text .entry)) at) ⌝ }
+// Past the white space beyond ASCII at a position.
+fn skip_wide(text: &[u8], p: Position) -> Position
+    requires { ⌜ Within (now text) p ⌝ }
+    requires { ⌜ 128 ≤ getD (now text) (p .offset) 0 ⌝ }
+    ensures { λ r. ⌜ SomeWhite (now (text .entry)) p r ⌝ }
 {
-    let b = characters::utf8::byte_at(text, at);
-    (33 <= b) & (b <= 127)
+    let mut at = p;
+    loop {
+        if utf8::byte_at(text, at.offset) < 128 {
+            return at;
+        }
+        let Ahead::Char(c, q) = bridge::look(text, at) else {
+            return at;
+        };
+        if !space::is_white(c) {
+            return at;
+        }
+        at = q;
+    }
 }
 
-// Past white space. Blanks are passed together, and what is plainly none is not decoded.
-pub fn skip_white(text: &[u8], p: Position) -> Position
+// Past some of the white space at a position: all that is beyond ASCII, or one character; none only where there is none.
+fn skip_some(text: &[u8], p: Position) -> Position
+    requires { ⌜ Within (now text) p ⌝ }
+    ensures { λ r. ⌜ SomeWhite (now (text .entry)) p r ⌝ }
+{
+    let b = utf8::byte_at(text, p.offset);
+    if 128 <= b {
+        return skip_wide(text, p);
+    }
+    let c = b as u32;
+    if !space::is_white(c) {
+        return p;
+    }
+    let q = bridge::past(p, c, 1);
+    behind_white(p, c, q)
+}
+
+// Past white space. Blanks are passed together.
+fn skip_white(text: &[u8], p: Position) -> Position
     requires { ⌜ Within (now text) p ⌝ }
     ensures { λ r. ⌜ WhiteAt (now (text .entry)) p r ⌝ }
 {
@@ -64,16 +96,11 @@ pub fn skip_white(text: &[u8], p: Position) -> Position
         let from = at.offset;
         let to = past_blanks(text, from);
         at = bridge::along(at, to - from);
-        if is_ink(text, to) {
+        let q = skip_some(text, at);
+        if q.offset == to {
             return at;
         }
-        let Ahead::Char(c, q) = bridge::look(text, at) else {
-            return at;
-        };
-        if !characters::space::is_white(c) {
-            return at;
-        }
-        at = behind_white(at, c, q);
+        at = q;
     }
 }
 
@@ -106,7 +133,7 @@ fn comment_at(text: &[u8], p: Position) -> Comment
     ensures { λ r. ⌜ CommentAt (now (text .entry)) p r ⌝ }
 {
     if line_at(text, p.offset) {
-        let c = walk::to_feed(text, bridge::along(p, 2));
+        let c = walk::to_byte(text, bridge::along(p, 2), 10);
         let at = c.at;
         return Comment::Past(Closing { at, found: true });
     }

@@ -58,7 +58,7 @@ pub fn braces(text: &[u8], p: Position, texts: &mut [u8], used: usize) -> Filled
     requires { ⌜ used ≤ 1152921504606846976 ⌝ }
     ensures { λ r. ⌜ BracesAt (now (text .entry)) p (now (texts .entry)) (now (texts .exit)) used r ⌝ }
 {
-    let c = walk::to_brace(text, bridge::along(p, 2));
+    let c = walk::to_byte(text, bridge::along(p, 2), 125);
     let at = walk::behind_mark(c, 1);
     let found = c.found;
     let end = output::put_part(b"${...}", 0, 6, texts, used);
@@ -76,7 +76,7 @@ pub fn doc_line(text: &[u8], p: Position) -> DocLine
     ensures { λ r. ⌜ DocLineAt (now (text .entry)) p r ⌝ }
 {
     let inner = bridge::along(p, 3);
-    let c = walk::to_feed(text, inner);
+    let c = walk::to_byte(text, inner, 10);
     let at = c.at;
     DocLine {
         from: inner.offset,

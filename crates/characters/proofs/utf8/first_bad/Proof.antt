@@ -22,6 +22,18 @@ loop-holds c = clean-none _ 0 (omega arith)
 past-ascii-requires : tie.Need-past-ascii-requires Inv-loop μ-loop
 past-ascii-requires c κs = search needs
 
+sub-if1 : tie.Need-sub-if1 Inv-loop μ-loop
+sub-if1 c = search needs
+
+past-rest-requires : tie.Need-past-rest-requires Inv-loop μ-loop
+past-rest-requires c κs = search needs
+
+returns : tie.Need-returns Inv-loop μ-loop
+returns c =
+    let l = c .before .before .before .loop in
+    let a = c .before .before .past-ascii .ensures in
+    sym (bad-start _ ∙ l .inv .same ∙ a .same ∙ c .past-rest .ensures)
+
 add-past-good : tie.Need-add-past-good Inv-loop μ-loop
 add-past-good c = search needs
 
@@ -33,23 +45,23 @@ enum-known-p c = search needs
 
 loop-less : tie.Need-loop-less Inv-loop μ-loop
 loop-less c =
-    let a = c .before .before .before .before .past-ascii .ensures in
+    let a = c .before .before .before .before .before .past-ascii .ensures in
     let q = subst (Progressed _ _ _) (c .before .p .given .1) (c .before .before .before .past-good .ensures) in
     omega arith
 
 loop-again : tie.Need-loop-again Inv-loop μ-loop
 loop-again c =
-    let a = c .before .before .before .before .past-ascii .ensures in
+    let a = c .before .before .before .before .before .past-ascii .ensures in
     let q = subst (Progressed _ _ _) (c .before .p .given .1) (c .before .before .before .past-good .ensures) in
-    clean-then (c .before .before .before .before .before .loop .inv) (clean-then a (q .0))
+    clean-then (c .before .before .before .before .before .before .loop .inv) (clean-then a (q .0))
 
 enum-known-p-2 : tie.Need-enum-known-p-2 Inv-loop μ-loop
 enum-known-p-2 c = search needs
 
-returns : tie.Need-returns Inv-loop μ-loop
-returns c =
-    let l = c .before .before .before .before .before .loop in
-    let a = c .before .before .before .before .past-ascii .ensures in
+returns-2 : tie.Need-returns-2 Inv-loop μ-loop
+returns-2 c =
+    let l = c .before .before .before .before .before .before .loop in
+    let a = c .before .before .before .before .before .past-ascii .ensures in
     let q = subst (Progressed _ _ _) (c .before .p2 .given .1) (c .before .before .before .past-good .ensures) in
     sym (bad-start _ ∙ l .inv .same ∙ a .same ∙ q)
 
@@ -61,10 +73,13 @@ first-bad-spec =
     μ-loop
     loop-holds
     past-ascii-requires
+    sub-if1
+    past-rest-requires
+    returns
     add-past-good
     past-good-requires
     enum-known-p
     loop-less
     loop-again
     enum-known-p-2
-    returns)
+    returns-2)

@@ -18,10 +18,10 @@ abbrev μ-loop : tie.MeasureT-loop
 μ-loop s from stop at₀ at = length s - at
 
 loop-holds : tie.Need-loop-holds Inv-loop μ-loop
-loop-holds c = clean-none _ _ (c .before .pre)
+loop-holds c = clean-none _ _ (c .before .pre .0)
 
-decode-requires : tie.Need-decode-requires Inv-loop μ-loop
-decode-requires c κs = tt
+decode-inside-requires : tie.Need-decode-inside-requires Inv-loop μ-loop
+decode-inside-requires c κs = search needs
 
 enum-known-d : tie.Need-enum-known-d Inv-loop μ-loop
 enum-known-d c = search needs
@@ -29,21 +29,21 @@ enum-known-d c = search needs
 add-at : tie.Need-add-at Inv-loop μ-loop
 add-at c =
     let g = c .before .d .given in
-    let e = sym (c .before .before .before .decode .ensures) ∙ g .1 in
+    let e = sym (c .before .before .before .decode-inside .ensures) ∙ g .1 in
     let p = placed-code _ _ _ _ e in
     omega arith
 
 loop-less : tie.Need-loop-less Inv-loop μ-loop
 loop-less c =
     let g = c .before .d .given in
-    let e = sym (c .before .before .before .decode .ensures) ∙ g .1 in
+    let e = sym (c .before .before .before .decode-inside .ensures) ∙ g .1 in
     let p = placed-code _ _ _ _ e in
     omega arith
 
 loop-again : tie.Need-loop-again Inv-loop μ-loop
 loop-again c =
     let g = c .before .d .given in
-    let e = sym (c .before .before .before .decode .ensures) ∙ g .1 in
+    let e = sym (c .before .before .before .decode-inside .ensures) ∙ g .1 in
     clean-then (c .before .before .before .before .before .loop .inv) (clean-code _ _ _ _ e)
 
 enum-told : tie.Need-enum-told Inv-loop μ-loop
@@ -52,7 +52,7 @@ enum-told c = search needs
 returns : tie.Need-returns Inv-loop μ-loop
 returns c =
     let l = c .before .before .before .before .loop in
-    l .inv .same ∙ bad-here _ (l .at) (sym (c .before .before .decode .ensures) ∙ c .enum-told .given .1)
+    l .inv .same ∙ bad-here _ (l .at) (sym (c .before .before .decode-inside .ensures) ∙ c .enum-told .given .1)
 
 enum-told-2 : tie.Need-enum-told-2 Inv-loop μ-loop
 enum-told-2 c = search needs
@@ -60,7 +60,7 @@ enum-told-2 c = search needs
 returns-2 : tie.Need-returns-2 Inv-loop μ-loop
 returns-2 c =
     let l = c .before .before .before .before .loop in
-    l .inv .same ∙ bad-none _ (l .at) (sym (c .before .before .decode .ensures) ∙ c .enum-told2 .given .1)
+    l .inv .same ∙ bad-none _ (l .at) (sym (c .before .before .decode-inside .ensures) ∙ c .enum-told2 .given .1)
 
 returns-3 : tie.Need-returns-3 Inv-loop μ-loop
 returns-3 c = search needs
@@ -72,7 +72,7 @@ past-good-spec =
     Inv-loop
     μ-loop
     loop-holds
-    decode-requires
+    decode-inside-requires
     enum-known-d
     add-at
     loop-less

@@ -17,8 +17,8 @@ is-at-requires c κs = search needs
 along-requires : tie.Need-along-requires
 along-requires c κs = search needs
 
-to-brace-requires : tie.Need-to-brace-requires
-to-brace-requires c κs =
+to-byte-requires : tie.Need-to-byte-requires
+to-byte-requires c κs =
     let at-if1 = c .before in
     let at-is-at = at-if1 .before in
     let i = at-is-at .before .before in
@@ -27,20 +27,20 @@ to-brace-requires c κs =
     let w = i .pre .0 in
     let d = i .pre .1 in
     let b = sym (at-is-at .is-at .ensures) ∙ at-if1 .if1 .taken in
-    subst (λ (q : Position). Within s q) (sym (c .along .ensures)) (opening-brace s (a .p) w d b .within)
+    (subst (λ (q : Position). Within s q) (sym (c .along .ensures)) (opening-brace s (a .p) w d b .within), (omega arith, omega arith))
 
 behind-mark-requires : tie.Need-behind-mark-requires
 behind-mark-requires c κs =
     let i = c .before .before .before .before .before in
     let a = i .args in
     let s = a .text .now in
-    let k = c .to-brace .result in
-    within-fits s (k .at) 1 (c .to-brace .ensures .reach .within) (omega arith)
+    let k = c .to-byte .result in
+    within-fits s (k .at) 1 (c .to-byte .ensures .reach .within) (omega arith)
 
 returns : tie.Need-returns
 returns c =
-    let at-to-brace = c .before in
-    let at-along = at-to-brace .before in
+    let at-to-byte = c .before in
+    let at-along = at-to-byte .before in
     let at-if1 = at-along .before in
     let at-is-at = at-if1 .before in
     let i = at-is-at .before .before in
@@ -49,7 +49,7 @@ returns c =
     let w = i .pre .0 in
     let d = i .pre .1 in
     let b = sym (at-is-at .is-at .ensures) ∙ at-if1 .if1 .taken in
-    brace-past s (a .p) w d (at-along .along .result) (c .behind-mark .result) (at-to-brace .to-brace .result) b (at-along .along .ensures) (at-to-brace .to-brace .ensures) (c .behind-mark .ensures)
+    brace-past s (a .p) w d (at-along .along .result) (c .behind-mark .result) (at-to-byte .to-byte .result) b (at-along .along .ensures) (at-to-byte .to-byte .ensures) (c .behind-mark .ensures)
 
 name-end-requires : tie.Need-name-end-requires
 name-end-requires c κs =
@@ -97,7 +97,7 @@ past-interpolation-spec =
     add-at
     is-at-requires
     along-requires
-    to-brace-requires
+    to-byte-requires
     behind-mark-requires
     returns
     name-end-requires

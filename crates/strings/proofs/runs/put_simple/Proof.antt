@@ -2,7 +2,7 @@ use Prim.Native.Nat.{_-_, _≤_}
 use lib.ListN.{length}
 use Rattle.output.proofs.Buffers.{put-length}
 use Rattle.strings.specs.Runs.{Wrote}
-use Rattle.strings.proofs.Rows.{wrote-start, wrote-few, wrote-more, wrote-join}
+use Rattle.strings.proofs.Rows.{units-plain, wrote-start, wrote-few, wrote-more, wrote-join}
 use native.Mathlib.Omega.{arith}
 use Rattle.strings.proofs.runs.put_simple.Statement.{statement}
 use Rattle.strings.proofs.runs.put_simple.Tie as tie
@@ -20,13 +20,14 @@ loop-holds c =
     (wrote-start (a .text .now) (a .p) (a .texts .now) (a .used-texts) (i .pre .0), i .pre .1)
 
 past-plain-requires : tie.Need-past-plain-requires Inv-loop μ-loop
-past-plain-requires c κs = c .loop .inv .0 .units .reach .within
+past-plain-requires c κs =
+    (c .loop .inv .0 .units .reach .within, record { first = omega arith; second = omega arith; third = omega arith })
 
 put-part-requires : tie.Need-put-part-requires Inv-loop μ-loop
 put-part-requires c κs =
     let at-past-plain = c .before in
     let l = at-past-plain .before .loop in
-    let u = at-past-plain .past-plain .ensures in
+    let u = units-plain _ _ _ (l .inv .0 .units .reach .within) (at-past-plain .past-plain .ensures) in
     let w = u .reach .within in
     let f = wrote-few _ _ _ _ _ _ _ (l .inv .0) in
     (omega (arith, u .small), (w .inside, (omega (arith, w .inside, w .size), omega (arith, f .0, f .1, l .inv .1))))
@@ -36,7 +37,8 @@ put-escapes-requires c κs =
     let at-put-part = c .before .before .before in
     let at-past-plain = at-put-part .before .before in
     let l = at-past-plain .before .loop in
-    let y = wrote-more _ _ _ _ _ _ _ (l .inv .0) _ _ _ _ (at-past-plain .past-plain .ensures) (at-put-part .put-part .ensures) in
+    let u = units-plain _ _ _ (l .inv .0 .units .reach .within) (at-past-plain .past-plain .ensures) in
+    let y = wrote-more _ _ _ _ _ _ _ (l .inv .0) _ _ _ _ u (at-put-part .put-part .ensures) in
     let f = wrote-few _ _ _ _ _ _ _ y in
     (y .units .reach .within, omega (arith, f .0, f .1, l .inv .1))
 
@@ -46,7 +48,8 @@ same-length c =
     let at-put-part = at-put-escapes .before .before .before .before in
     let at-past-plain = at-put-part .before .before in
     let l = at-past-plain .before .loop in
-    let y = wrote-more _ _ _ _ _ _ _ (l .inv .0) _ _ _ _ (at-past-plain .past-plain .ensures) (at-put-part .put-part .ensures) in
+    let u = units-plain _ _ _ (l .inv .0 .units .reach .within) (at-past-plain .past-plain .ensures) in
+    let y = wrote-more _ _ _ _ _ _ _ (l .inv .0) _ _ _ _ u (at-put-part .put-part .ensures) in
     let z = wrote-join _ _ _ _ _ _ _ y _ _ _ (at-put-escapes .put-escapes .ensures) in
     put-length _ _ _ _ _ (z .made)
 
@@ -56,7 +59,8 @@ returns c =
     let at-put-part = at-put-escapes .before .before .before .before in
     let at-past-plain = at-put-part .before .before in
     let l = at-past-plain .before .loop in
-    let y = wrote-more _ _ _ _ _ _ _ (l .inv .0) _ _ _ _ (at-past-plain .past-plain .ensures) (at-put-part .put-part .ensures) in
+    let u = units-plain _ _ _ (l .inv .0 .units .reach .within) (at-past-plain .past-plain .ensures) in
+    let y = wrote-more _ _ _ _ _ _ _ (l .inv .0) _ _ _ _ u (at-put-part .put-part .ensures) in
     wrote-join _ _ _ _ _ _ _ y _ _ _ (at-put-escapes .put-escapes .ensures)
 
 loop-less : tie.Need-loop-less Inv-loop μ-loop
@@ -64,7 +68,7 @@ loop-less c =
     let at-put-escapes = c .before .before .before .before .before in
     let at-past-plain = at-put-escapes .before .before .before .before .before .before in
     let l = at-past-plain .before .loop in
-    let u = at-past-plain .past-plain .ensures in
+    let u = units-plain _ _ _ (l .inv .0 .units .reach .within) (at-past-plain .past-plain .ensures) in
     let z = at-put-escapes .put-escapes .ensures .units in
     let n = c .if1 .left in
     omega (arith, u .small, z .small, z .reach .within .inside)
@@ -75,7 +79,8 @@ loop-again c =
     let at-put-part = at-put-escapes .before .before .before .before in
     let at-past-plain = at-put-part .before .before in
     let l = at-past-plain .before .loop in
-    let y = wrote-more _ _ _ _ _ _ _ (l .inv .0) _ _ _ _ (at-past-plain .past-plain .ensures) (at-put-part .put-part .ensures) in
+    let u = units-plain _ _ _ (l .inv .0 .units .reach .within) (at-past-plain .past-plain .ensures) in
+    let y = wrote-more _ _ _ _ _ _ _ (l .inv .0) _ _ _ _ u (at-put-part .put-part .ensures) in
     (wrote-join _ _ _ _ _ _ _ y _ _ _ (at-put-escapes .put-escapes .ensures), l .inv .1)
 
 pub put-simple-spec : {M : Type 1} → statement M

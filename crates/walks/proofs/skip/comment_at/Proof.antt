@@ -16,8 +16,8 @@ line-at-requires c κs = search needs
 along-requires : tie.Need-along-requires
 along-requires c κs = search needs
 
-to-feed-requires : tie.Need-to-feed-requires
-to-feed-requires c κs =
+to-byte-requires : tie.Need-to-byte-requires
+to-byte-requires c κs =
     let o = c in
     let t = o .before in
     let h = t .before in
@@ -25,7 +25,7 @@ to-feed-requires c κs =
     let a = i .args in
     let e = sym (h .line-at .ensures) ∙ t .if1 .taken in
     let r = begin-reach (text "//") (a .text .now) (a .p) _ (omega arith) (i .pre) (line-starts _ e) (o .along .ensures) in
-    r .within
+    (r .within, (omega arith, omega arith))
 
 returns : tie.Need-returns
 returns c =
@@ -36,7 +36,7 @@ returns c =
     let a = i .args in
     let e = sym (h .line-at .ensures) ∙ t .if1 .taken in
     let r = begin-reach (text "//") (a .text .now) (a .p) _ (omega arith) (i .pre) (line-starts _ e) (o .along .ensures) in
-    line-past (a .text .now) (a .p) _ _ e r (c .before .to-feed .ensures)
+    line-past (a .text .now) (a .p) _ _ e r (c .before .to-byte .ensures)
 
 block-at-requires : tie.Need-block-at-requires
 block-at-requires c κs = search needs
@@ -84,7 +84,7 @@ comment-at-spec =
     (tie.spec
     line-at-requires
     along-requires
-    to-feed-requires
+    to-byte-requires
     returns
     block-at-requires
     along-requires-2

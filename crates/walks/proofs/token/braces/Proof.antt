@@ -10,12 +10,12 @@ use Rattle.walks.proofs.token.braces.Tie as tie
 along-requires : tie.Need-along-requires
 along-requires c κs = search needs
 
-to-brace-requires : tie.Need-to-brace-requires
-to-brace-requires c κs =
+to-byte-requires : tie.Need-to-byte-requires
+to-byte-requires c κs =
     let i = c .before .before .before in
     let a = i .args in
     let w = i .pre in
-    begin-reach dollarBrace (a .text .now) (a .p) _ (omega arith) (w .0) (w .1 .0) (c .along .ensures) .within
+    (begin-reach dollarBrace (a .text .now) (a .p) _ (omega arith) (w .0) (w .1 .0) (c .along .ensures) .within, (omega arith, omega arith))
 
 behind-mark-requires : tie.Need-behind-mark-requires
 behind-mark-requires c κs = search needs
@@ -39,14 +39,14 @@ returns c =
     let a = i .args in
     let w = i .pre in
     let r = begin-reach dollarBrace (a .text .now) (a .p) _ (omega arith) (w .0) (w .1 .0) (o .along .ensures) in
-    braces-at (a .text .now) (a .p) _ _ _ _ _ _ _ (w .1 .0) r (q .to-brace .ensures) (b .behind-mark .ensures) (t .put-part .ensures)
+    braces-at (a .text .now) (a .p) _ _ _ _ _ _ _ (w .1 .0) r (q .to-byte .ensures) (b .behind-mark .ensures) (t .put-part .ensures)
 
 pub braces-spec : {M : Type 1} → statement M
 braces-spec =
     tie.close
     (tie.spec
     along-requires
-    to-brace-requires
+    to-byte-requires
     behind-mark-requires
     slice-aggregate-put-part
     put-part-requires

@@ -10,12 +10,12 @@ use Rattle.walks.proofs.token.doc_line.Tie as tie
 along-requires : tie.Need-along-requires
 along-requires c κs = search needs
 
-to-feed-requires : tie.Need-to-feed-requires
-to-feed-requires c κs =
+to-byte-requires : tie.Need-to-byte-requires
+to-byte-requires c κs =
     let i = c .before .before in
     let a = i .args in
     let w = i .pre in
-    begin-reach slashes (a .text .now) (a .p) _ (omega arith) (w .0) (w .1) (c .along .ensures) .within
+    (begin-reach slashes (a .text .now) (a .p) _ (omega arith) (w .0) (w .1) (c .along .ensures) .within, (omega arith, omega arith))
 
 returns : tie.Need-returns
 returns c =
@@ -25,7 +25,7 @@ returns c =
     let a = i .args in
     let w = i .pre in
     let r = begin-reach slashes (a .text .now) (a .p) _ (omega arith) (w .0) (w .1) (o .along .ensures) in
-    doc-line-at (a .text .now) (a .p) _ _ (w .1) r (q .to-feed .ensures)
+    doc-line-at (a .text .now) (a .p) _ _ (w .1) r (q .to-byte .ensures)
 
 pub doc-line-spec : {M : Type 1} → statement M
-doc-line-spec = tie.close (tie.spec along-requires to-feed-requires returns)
+doc-line-spec = tie.close (tie.spec along-requires to-byte-requires returns)
