@@ -13,7 +13,9 @@ use characters::mark;
 use characters::space;
 use characters::utf8;
 
-pub mod calls; // calls.rt: tokenising, measuring, and reading records back
+pub mod calls; // calls.rt: measuring and tokenising
+pub mod reading; // reading.rt: the next token, the next error, the text check
+pub mod matching; // matching.rt: consume and match
 
 // 0 where the text is UTF-8; else the number of the refusal, and the first byte of the first bad sequence in `place`.
 #[no_mangle]

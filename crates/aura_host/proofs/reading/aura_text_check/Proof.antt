@@ -1,10 +1,10 @@
--- `calls::aura_text_check` meets its contract.
+-- `reading::aura_text_check` meets its contract.
 use mathlib.Core.Path.{refl, sym, ap, _∙_}
 use Rattle.aura_host.specs.Calls.{numberOf, checkAfter}
 use Rattle.records.specs.Answers.{ofTextCheck}
 use borrow.Author.Needs.{needs}
-use Rattle.aura_host.proofs.calls.aura_text_check.Statement.{statement}
-use Rattle.aura_host.proofs.calls.aura_text_check.Tie as tie
+use Rattle.aura_host.proofs.reading.aura_text_check.Statement.{statement}
+use Rattle.aura_host.proofs.reading.aura_text_check.Tie as tie
 
 text-check-requires : tie.Need-text-check-requires
 text-check-requires c κs = search needs

@@ -1,11 +1,15 @@
--- `calls::aura_consume` meets its contract.
+-- `matching::aura_consume` meets its contract.
 use mathlib.Core.Path.{refl, sym, ap, _∙_}
 use Rattle.aura_host.specs.Calls.{numberOf, slotsAfter, tokenValues, consumedValues}
 use Rattle.records.specs.Answers.{ofConsumed}
 use borrow.Author.Needs.{needs}
-use Rattle.aura_host.proofs.Unknown.{consume-unknown}
-use Rattle.aura_host.proofs.calls.aura_consume.Statement.{statement}
-use Rattle.aura_host.proofs.calls.aura_consume.Tie as tie
+use borrow.Author.Tests.{not-true, not-false}
+use Rattle.aura_host.proofs.Unknown.{kind-low, consume-unknown}
+use Rattle.aura_host.proofs.matching.aura_consume.Statement.{statement}
+use Rattle.aura_host.proofs.matching.aura_consume.Tie as tie
+
+is-kind-requires : tie.Need-is-kind-requires
+is-kind-requires c κs = search needs
 
 element-write-answer : tie.Need-element-write-answer
 element-write-answer c = search needs
@@ -14,11 +18,14 @@ element-write-answer c = search needs
 returns : tie.Need-returns
 unfolding numberOf slotsAfter
 returns c =
-    let a = c .before .before .args in
-    rw (consume-unknown _ (a .place) (a .kind) (c .if1 .taken)) (refl, refl)
+    let a = c .before .before .before .args in
+    rw (consume-unknown _ (a .place) (a .kind) (sym (c .before .is-kind .ensures) ∙ not-true _ (c .if1 .taken))) (refl, refl)
 
 cast-consume : tie.Need-cast-consume
-cast-consume c = search needs
+cast-consume c =
+    let a = c .before .before .before .args in
+    let h = kind-low (a .kind) (sym (c .before .is-kind .ensures) ∙ not-false _ (c .if1 .left)) in
+    search needs
 
 consume-requires : tie.Need-consume-requires
 consume-requires c κs = search needs
@@ -29,8 +36,8 @@ enum-known-n c = search needs
 truth-of-requires : tie.Need-truth-of-requires
 truth-of-requires c κs = search needs
 
-cast-t18 : tie.Need-cast-t18
-cast-t18 c = search needs
+cast-t19 : tie.Need-cast-t19
+cast-t19 c = search needs
 
 enum-known-n-2 : tie.Need-enum-known-n-2
 enum-known-n-2 c = search needs
@@ -50,13 +57,14 @@ pub aura-consume-spec : {M : Type 1} → statement M
 aura-consume-spec =
     tie.close
     (tie.spec
+    is-kind-requires
     element-write-answer
     returns
     cast-consume
     consume-requires
     enum-known-n
     truth-of-requires
-    cast-t18
+    cast-t19
     enum-known-n-2
     element-write-answer-2
     returns-2

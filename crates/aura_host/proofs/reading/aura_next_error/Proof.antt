@@ -1,10 +1,10 @@
--- `calls::aura_next_error` meets its contract.
+-- `reading::aura_next_error` meets its contract.
 use mathlib.Core.Path.{refl, sym, ap, _∙_}
 use Rattle.aura_host.specs.Calls.{numberOf, slotsAfter, errorValues}
 use Rattle.records.specs.Answers.{ofNextError}
 use borrow.Author.Needs.{needs}
-use Rattle.aura_host.proofs.calls.aura_next_error.Statement.{statement}
-use Rattle.aura_host.proofs.calls.aura_next_error.Tie as tie
+use Rattle.aura_host.proofs.reading.aura_next_error.Statement.{statement}
+use Rattle.aura_host.proofs.reading.aura_next_error.Tie as tie
 
 next-error-requires : tie.Need-next-error-requires
 next-error-requires c κs = search needs

@@ -1,10 +1,10 @@
--- `calls::aura_next_token` meets its contract.
+-- `reading::aura_next_token` meets its contract.
 use mathlib.Core.Path.{refl, sym, ap, _∙_}
 use Rattle.aura_host.specs.Calls.{numberOf, slotsAfter, tokenValues}
 use Rattle.records.specs.Answers.{ofNext}
 use borrow.Author.Needs.{needs}
-use Rattle.aura_host.proofs.calls.aura_next_token.Statement.{statement}
-use Rattle.aura_host.proofs.calls.aura_next_token.Tie as tie
+use Rattle.aura_host.proofs.reading.aura_next_token.Statement.{statement}
+use Rattle.aura_host.proofs.reading.aura_next_token.Tie as tie
 
 next-token-requires : tie.Need-next-token-requires
 next-token-requires c κs = search needs

@@ -1,11 +1,15 @@
--- `calls::aura_match_kind` meets its contract.
+-- `matching::aura_match_kind` meets its contract.
 use mathlib.Core.Path.{refl, sym, ap, _∙_}
 use Rattle.aura_host.specs.Calls.{numberOf, slotsAfter, matchedValues}
 use Rattle.records.specs.Answers.{ofMatched}
 use borrow.Author.Needs.{needs}
-use Rattle.aura_host.proofs.Unknown.{match-unknown}
-use Rattle.aura_host.proofs.calls.aura_match_kind.Statement.{statement}
-use Rattle.aura_host.proofs.calls.aura_match_kind.Tie as tie
+use borrow.Author.Tests.{not-true, not-false}
+use Rattle.aura_host.proofs.Unknown.{kind-low, match-unknown}
+use Rattle.aura_host.proofs.matching.aura_match_kind.Statement.{statement}
+use Rattle.aura_host.proofs.matching.aura_match_kind.Tie as tie
+
+is-kind-requires : tie.Need-is-kind-requires
+is-kind-requires c κs = search needs
 
 element-write-answer : tie.Need-element-write-answer
 element-write-answer c = search needs
@@ -14,11 +18,14 @@ element-write-answer c = search needs
 returns : tie.Need-returns
 unfolding numberOf slotsAfter
 returns c =
-    let a = c .before .before .args in
-    rw (match-unknown _ (a .place) (a .kind) (c .if1 .taken)) (refl, refl)
+    let a = c .before .before .before .args in
+    rw (match-unknown _ (a .place) (a .kind) (sym (c .before .is-kind .ensures) ∙ not-true _ (c .if1 .taken))) (refl, refl)
 
 cast-match-kind : tie.Need-cast-match-kind
-cast-match-kind c = search needs
+cast-match-kind c =
+    let a = c .before .before .before .args in
+    let h = kind-low (a .kind) (sym (c .before .is-kind .ensures) ∙ not-false _ (c .if1 .left)) in
+    search needs
 
 match-kind-requires : tie.Need-match-kind-requires
 match-kind-requires c κs = search needs
@@ -47,6 +54,7 @@ pub aura-match-kind-spec : {M : Type 1} → statement M
 aura-match-kind-spec =
     tie.close
     (tie.spec
+    is-kind-requires
     element-write-answer
     returns
     cast-match-kind
