@@ -1,4 +1,6 @@
 //! What a lexer answers, in the form in which the two are compared.
+use aura_lexer::{ErrorKind, TokenKind};
+use std::fmt;
 
 pub type Span = [u64; 6];
 
@@ -14,6 +16,33 @@ pub struct Mistake {
     pub kind: u8,
     pub span: Span,
     pub code: Option<u32>,
+}
+
+fn place(span: &Span) -> String {
+    let [start, end, start_line, start_col, end_line, end_col] = span;
+    format!("bytes {start} to {end}, line {start_line} column {start_col} to line {end_line} column {end_col}")
+}
+
+impl fmt::Display for Token {
+    fn fmt(&self, f: &mut fmt::Formatter<'_>) -> fmt::Result {
+        let name = TokenKind::from_number(u64::from(self.kind)).map_or("unknown", TokenKind::name);
+        write!(f, "{name} ({}) {:?}, {}", self.kind, String::from_utf8_lossy(&self.text), place(&self.span))
+    }
+}
+
+impl fmt::Display for Mistake {
+    fn fmt(&self, f: &mut fmt::Formatter<'_>) -> fmt::Result {
+        let meaning = ErrorKind::from_number(u64::from(self.kind)).map_or("unknown", ErrorKind::meaning);
+        let code = self.code.map_or(String::new(), |c| format!(" U+{c:04X}"));
+        write!(f, "{} ({meaning}){code}, {}", self.kind, place(&self.span))
+    }
+}
+
+/// The first place where two lists differ, both sides in words. Elements are counted from 0.
+fn first_difference<T: PartialEq + fmt::Display>(what: &str, ours: &[T], theirs: &[T]) -> Option<String> {
+    let words = |x: Option<&T>| x.map_or("none".to_string(), T::to_string);
+    let i = (0..ours.len().max(theirs.len())).find(|&i| ours.get(i) != theirs.get(i))?;
+    Some(format!("{what} {i}: ours is {}; the original's is {}", words(ours.get(i)), words(theirs.get(i))))
 }
 
 #[derive(Clone, Debug, PartialEq, Eq)]
@@ -58,18 +87,8 @@ impl Lexed {
         whole
     }
 
-    /// The first place where two answers differ, in words.
-    pub fn difference(&self, other: &Lexed) -> Option<String> {
-        for i in 0..self.tokens.len().max(other.tokens.len()) {
-            if self.tokens.get(i) != other.tokens.get(i) {
-                return Some(format!("token {i}: {:?} against {:?}", self.tokens.get(i), other.tokens.get(i)));
-            }
-        }
-        for i in 0..self.errors.len().max(other.errors.len()) {
-            if self.errors.get(i) != other.errors.get(i) {
-                return Some(format!("error {i}: {:?} against {:?}", self.errors.get(i), other.errors.get(i)));
-            }
-        }
-        None
+    /// The first place where our answer differs from the original's.
+    pub fn difference(&self, original: &Lexed) -> Option<String> {
+        first_difference("token", &self.tokens, &original.tokens).or_else(|| first_difference("error", &self.errors, &original.errors))
     }
 }

@@ -7,6 +7,11 @@ use crate::scripts::{self, Numbers};
 use std::fs;
 use std::path::Path;
 use std::sync::OnceLock;
+use std::time::{Duration, Instant};
+
+const SHRINKING: Duration = Duration::from_secs(30);
+/// The most bytes that a character has: parts of so many bytes and fewer are left out at every place.
+const CHARACTER: usize = 4;
 
 fn hex(bytes: &[u8]) -> String {
     bytes.iter().map(|b| format!("{b:02X}")).collect::<Vec<_>>().join(" ")
@@ -50,24 +55,32 @@ fn compare(script: &[u8]) -> Result<Option<bool>, String> {
     Ok(Some(used.closed))
 }
 
-/// The smallest input that still differs, by leaving out parts.
+/// A smaller input that still differs, by leaving out parts: the smallest that is found within the time.
 fn shrink(script: &[u8]) -> Vec<u8> {
+    let start = Instant::now();
     let mut best = script.to_vec();
     let mut size = best.len().div_ceil(2);
     while size > 0 {
         let mut at = 0;
-        while at + size <= best.len() {
+        while at + size <= best.len() && start.elapsed() < SHRINKING {
             let mut less = best.clone();
             less.drain(at..at + size);
             if compare(&less).is_err() {
                 best = less;
             } else {
-                at += size;
+                at += if size <= CHARACTER { 1 } else { size };
             }
         }
-        size /= 2;
+        size = if size <= CHARACTER { size - 1 } else { (size / 2).max(CHARACTER) };
     }
     best
+}
+
+/// The smallest input that is found to differ as this one does, and how.
+fn smallest(script: &[u8]) -> String {
+    let least = shrink(script);
+    let text = compare(&least).expect_err("it still differs");
+    format!("{:?} ({}): {text}", String::from_utf8_lossy(&least), hex(&least))
 }
 
 /// What was compared, for the summary.
@@ -94,9 +107,7 @@ impl Tally {
                 true
             }
             Err(_) => {
-                let least = shrink(script);
-                let text = compare(&least).expect_err("it still differs");
-                println!("DIFFERENT: {:?} ({}): {text}", String::from_utf8_lossy(&least), hex(&least));
+                println!("DIFFERENT: {}", smallest(script));
                 false
             }
         }
@@ -210,11 +221,51 @@ pub fn files_below(folder: &Path, found: &mut Vec<std::path::PathBuf>) -> std::i
     Ok(())
 }
 
-fn meaning(r: Refusal) -> &'static str {
-    match r.number {
-        1 => "the script is too long: its length in bytes",
-        2 => "the script is not UTF-8: the first byte of the first bad sequence",
-        _ => "a buffer is too small: the bytes needed",
+/// What was found in an archive, for the summary.
+#[derive(Default)]
+struct Archive {
+    equal: u64,
+    different: u64,
+    refused: u64,
+    unreadable: u64,
+    open: u64,
+    bytes: usize,
+    tokens: usize,
+    errors: usize,
+}
+
+impl Archive {
+    fn add(&mut self, name: &str, script: &[u8]) {
+        match compare(script) {
+            Err(text) => {
+                println!("different {name}: {text}");
+                if self.different == 0 {
+                    println!("  the smallest part of it that differs: {}", smallest(script));
+                }
+                self.different += 1;
+            }
+            Ok(None) => {
+                println!("refused {name}: {}", host::measure(script).expect_err("it was refused"));
+                self.refused += 1;
+            }
+            Ok(Some(closed)) => {
+                println!("equal {name}{}", if closed { "" } else { " (open at its end)" });
+                let lexed = ours(script).expect("it was compared");
+                self.equal += 1;
+                self.open += u64::from(!closed);
+                self.bytes += script.len();
+                self.tokens += lexed.tokens.len();
+                self.errors += lexed.errors.len();
+            }
+        }
+    }
+
+    fn report(&self) -> bool {
+        let Archive { equal, different, refused, unreadable, open, bytes, tokens, errors } = self;
+        let files = equal + different + refused + unreadable;
+        println!("{files} files: {equal} equal, {different} different, {refused} refused, {unreadable} unreadable");
+        println!("in the equal ones: {bytes} bytes, {tokens} tokens, {errors} errors; {open} are open at their end");
+        *different == 0 && *unreadable == 0
     }
 }
 
@@ -225,35 +276,19 @@ pub fn archive(folder: &str) -> bool {
         println!("cannot read {folder}: {e}");
         return false;
     }
-    let (mut equal, mut different, mut refused, mut open, mut bytes, mut tokens, mut errors) = (0, 0, 0, 0, 0, 0, 0);
-    for file in &files {
-        let name = file.display();
-        let Ok(script) = fs::read(file) else {
-            println!("different {name}: the file cannot be read");
-            different += 1;
-            continue;
-        };
-        match compare(&script) {
-            Err(text) => {
-                println!("different {name}: {text}");
-                different += 1;
-            }
-            Ok(None) => {
-                let r = host::measure(&script).expect_err("it was refused");
-                println!("refused {name}: number {}, figure {} ({})", r.number, r.figure, meaning(r));
-                refused += 1;
-            }
-            Ok(Some(closed)) => {
-                println!("equal {name}{}", if closed { "" } else { " (open at its end)" });
-                equal += 1;
-                open += u64::from(!closed);
-                bytes += script.len();
-                let lexed = check::lex(&script).expect("it was compared").0;
-                tokens += lexed.tokens.len();
-                errors += lexed.errors.len();
+    let mut found = Archive::default();
+    for (i, file) in files.iter().enumerate() {
+        let name = file.display().to_string();
+        match fs::read(file) {
+            Ok(script) => found.add(&name, &script),
+            Err(e) => {
+                println!("unreadable {name}: {e}");
+                found.unreadable += 1;
             }
         }
+        if (i + 1) % 1_000 == 0 {
+            eprintln!("{} of {} files compared", i + 1, files.len());
+        }
     }
-    println!("{} files: {equal} equal, {different} different, {refused} refused; {bytes} bytes, {tokens} tokens, {errors} errors, {open} open", files.len());
-    different == 0
+    found.report()
 }
