@@ -12,7 +12,7 @@ const REMARKS: [&str; 8] = [
     "checked against the register",
     "the stone is broken, read from the plan of 1931",
     "moved from the old churchyard",
-    "TODO: ask the parish about the second name",
+    "ask the parish about the second name",
     "lease paid until the end of the year",
     "no stone; the place is known from the sexton's book",
     "spelled Mueller in the register",

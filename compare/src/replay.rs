@@ -88,7 +88,7 @@ pub fn store(file: &str) -> bool {
     while list.len() < 2400 {
         list.push(scripts::random(&mut draw));
     }
-    list.push(scripts::import_script(&mut draw, 2000));
+    list.push(crate::imports::script(2026, 2000));
     let mut kinds = [false; 126];
     let mut faults = [false; 11];
     let mut text = String::from("# Made by `compare store` from the original lexer: see src/replay.rs.\n");

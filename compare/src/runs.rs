@@ -1,6 +1,7 @@
 //! The runs against the original lexer.
 use crate::check::{self, LIMIT};
 use crate::host::{self, Refusal};
+use crate::imports;
 use crate::lexed::Lexed;
 use crate::oracle;
 use crate::scripts::{self, Numbers};
@@ -169,7 +170,7 @@ pub fn mutate(seed: u64, count: u64, files: &[&str]) -> bool {
         }
     }
     if texts.is_empty() {
-        texts.push(scripts::import_script(&mut numbers, 600).into_bytes());
+        texts.push(imports::script(seed, 2_000).into_bytes());
     }
     for text in &texts {
         for at in 0..=text.len().min(4000) {
@@ -190,7 +191,6 @@ pub fn mutate(seed: u64, count: u64, files: &[&str]) -> bool {
 
 /// Scripts up to the limit and one byte more.
 pub fn large(seed: u64) -> bool {
-    let mut numbers = Numbers::new(seed);
     let mut tally = Tally::default();
     let mut texts = vec![" ".repeat(LIMIT), " ".repeat(LIMIT + 1), "\u{FEFF}".to_string() + &" ".repeat(LIMIT - 3)];
     for part in ["\n", "a ", "\"$a\"", "'", "${", "\\", "/*", "é", "\"\\q\"", "+", "\"\"\"", "///\n", "/**\n*", "\0", "\"\\u\n"] {
@@ -198,7 +198,7 @@ pub fn large(seed: u64) -> bool {
         texts.push(scripts::cut("\"".to_string() + &part.repeat(LIMIT / part.len()), LIMIT));
     }
     for size in [1_000, 32_000, LIMIT] {
-        texts.push(scripts::cut(scripts::import_script(&mut numbers, size), size));
+        texts.push(imports::script(seed, size));
     }
     for text in texts {
         if !tally.add(text.as_bytes()) {

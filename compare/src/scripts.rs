@@ -75,39 +75,6 @@ pub fn damaged(numbers: &mut Numbers, script: &[u8]) -> Vec<u8> {
     bytes
 }
 
-/// An import script as offices write them, of about so many bytes.
-pub fn import_script(numbers: &mut Numbers, size: usize) -> String {
-    const NAMES: [&str; 8] = ["Müller", "O'Brien", "Svensson", "García", "Nowak", "Øster", "Dubois", "Smith"];
-    const FIELDS: [&str; 8] = ["plot", "row", "section", "buried", "name", "grave", "owner", "lease"];
-    let mut script = String::from("package cemetery.imports\n\nimport map.plots\n\n");
-    let mut record = 0;
-    while script.len() < size {
-        record += 1;
-        match numbers.below(8) {
-            0 => script += &format!("/// Burial {record}, section {}\n", numbers.pick(&["A", "B", "C"])),
-            1 => script += &format!("// checked against the register, page {}\n", numbers.below(900)),
-            2 => script += &format!("/**\n * Plot {record}\n * moved in {}\n */\n", 1900 + numbers.below(120)),
-            _ => {}
-        }
-        script += &format!("val burial{record} = Burial(\n");
-        for _ in 0..2 + numbers.below(4) {
-            let field = numbers.pick(&FIELDS);
-            script += &match numbers.below(5) {
-                0 => format!("    {field} = {},\n", numbers.below(9999)),
-                1 => format!("    {field} = \"{}, {}\",\n", numbers.pick(&NAMES), numbers.pick(&["Anna", "Józef", "Ada"])),
-                2 => format!("    {field} = \"$section-${{row + {}}}\",\n", numbers.below(40)),
-                3 => format!("    {field} = 0x{:04X},\n", numbers.below(65536)),
-                _ => format!("    {field} = {}.{:02}f, // metres\n", numbers.below(40), numbers.below(100)),
-            };
-        }
-        script += ")\n";
-        if numbers.below(3) == 0 {
-            script += &format!("if (burial{record}.row >= {} && !burial{record}.closed) {{\n    file(burial{record}) ?? throw Conflict()\n}}\n", numbers.below(99));
-        }
-    }
-    script
-}
-
 /// Cuts a text to at most so many bytes, at a character.
 pub fn cut(mut script: String, size: usize) -> String {
     let mut at = size.min(script.len());
