@@ -139,19 +139,12 @@ module _ (s old b : List ℕ) (from to at i p : ℕ) (c : Copying s old b from t
 
 -- ── Whole values: at once where they fit, else over a small buffer ──
 
--- A value of at least one byte, all of whose bytes fit, has room.
-pub whole-room : (size at n m r : ℕ) → Fitting size at n r → r ≡ n → n ≡ m → 1 ≤ m → at + m ≤ size
-whole-room size at n m r f e g h = omega (arith, f .inside)
-
 pub whole-put : (old new : List ℕ) (at n r : ℕ) (vs : List ℕ) → length vs ≡ n → r ≡ at + n → new ≡ sets old at vs → Put old new at vs r
 whole-put old new at n r vs e f g = record { written = g; place = omega arith }
 
 -- A value none of whose bytes fits changes nothing.
-pub none-put : (old : List ℕ) (at n r : ℕ) (vs : List ℕ) → length vs ≡ n → Fitting (length old) at n r → (r ≡ n → ⊥) → r ≡ 0
-    → Put old old at vs (at + n)
-none-put old at n r vs e f g h =
-    let past : length old ≤ at = ⊎-elim (λ w. absurd (g w)) (λ w. omega arith) (f .most) in
-    record { written = sym (sets-out old at vs past); place = omega arith }
+pub none-put : (old : List ℕ) (at n : ℕ) (vs : List ℕ) → length vs ≡ n → length old ≤ at → Put old old at vs (at + n)
+none-put old at n vs e h = record { written = sym (sets-out old at vs h); place = omega arith }
 
 -- The value stands at the front of a small buffer, and is copied from there.
 pub cut-put : (old new small b : List ℕ) (at n r : ℕ) (vs : List ℕ) → length vs ≡ n → n ≤ length b → small ≡ sets b 0 vs

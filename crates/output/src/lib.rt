@@ -73,11 +73,10 @@ pub fn put_char(c: u32, buf: &mut [u8], at: usize) -> usize
     ensures { λ r. ⌜ Put (now (buf .entry)) (now (buf .exit)) at (encodeChar c) r ⌝ }
 {
     let n = encoding::width_of(c);
-    let room = fitting(buf.len(), at, n);
-    if room == n {
+    if at + n <= buf.len() {
         return encoding::put_char(buf, at, c);
     }
-    if room == 0 {
+    if buf.len() <= at {
         return at + n;
     }
     let mut bytes = [0u8; 4];
@@ -98,11 +97,10 @@ pub fn put_token(
     ensures { λ r. ⌜ Put (now (buf .entry)) (now (buf .exit)) at (tokenRecord kind span offset len) r ⌝ }
 {
     let n = kinds::record_length(kind);
-    let room = fitting(buf.len(), at, n);
-    if room == n {
+    if at + n <= buf.len() {
         return write::put_token(buf, at, kind, span, offset, len);
     }
-    if room == 0 {
+    if buf.len() <= at {
         return at + n;
     }
     let mut bytes = [0u8; 33];
@@ -116,11 +114,10 @@ pub fn put_error(buf: &mut [u8], at: usize, kind: u8, span: Span, code: u32) -> 
     ensures { λ r. ⌜ Put (now (buf .entry)) (now (buf .exit)) at (errorRecord kind span code) r ⌝ }
 {
     let n = kinds::error_length(kind);
-    let room = fitting(buf.len(), at, n);
-    if room == n {
+    if at + n <= buf.len() {
         return write::put_error(buf, at, kind, span, code);
     }
-    if room == 0 {
+    if buf.len() <= at {
         return at + n;
     }
     let mut bytes = [0u8; 29];

@@ -1,5 +1,5 @@
 -- Laws of kinds. Assumes nothing.
-use mathlib.Core.Path.{_≡_}
+use mathlib.Core.Path.{_≡_, refl}
 use mathlib.Core.Bool.{true, false}
 use mathlib.Core.Logic.{_⊎_, inl, inr, ⊎-elim}
 use Prim.Native.Nat.{ℕ, _≤_, _<_}
@@ -65,3 +65,33 @@ length-code k e = simp e
 pub length-bare : (k : ℕ) → hasCode k ≡ false → errorLength k ≡ 25
 unfolding errorLength
 length-bare k e = simp e
+
+-- ── The kinds whose text is made, and those whose text is not ──
+
+pub string-made : isMade 2 ≡ true
+unfolding isMade within
+string-made = refl
+
+pub char-made : isMade 3 ≡ true
+unfolding isMade within
+char-made = refl
+
+pub interp-made : isMade 121 ≡ true
+unfolding isMade within
+interp-made = refl
+
+pub doc-made : isMade 123 ≡ true
+unfolding isMade within
+doc-made = refl
+
+pub error-part : isMade 125 ≡ false
+unfolding isMade within
+error-part = refl
+
+pub eof-bare : hasText 124 ≡ false
+unfolding hasText
+eof-bare = refl
+
+pub eof-part : isMade 124 ≡ false
+unfolding isMade within
+eof-part = refl

@@ -22,7 +22,7 @@ use Rattle.walks.specs.Skips.{opensDoc, isSkipped, isSkippedSort}
 use Rattle.walks.specs.Tokens.{dollarBrace, slashes}
 use Rattle.walks.proofs.Stops.{kept-line, kept-block}
 use Rattle.words.specs.Classes.{OTHER, SLASH, SPACE, APOSTROPHE, QUOTE, DOLLAR, LETTER, DIGIT, markChars, placeFrom, classOf}
-use Rattle.words.specs.Words.{beginsWord}
+use Rattle.words.specs.Words.{isWordClass, beginsWord}
 use Rattle.words.proofs.Lists.{allBelow, below}
 use Rattle.words.proofs.Classes.{class-low, class-there, class-char, dollar-is, slash-is}
 use Rattle.words.proofs.Segments.{space-segment}
@@ -100,22 +100,17 @@ module _ (s : List ℕ) (at k : ℕ) (e : k ≡ classOf (getD s at 0)) where
       let w : segment (getD s at 0 ∷ cs) ≡ whiteSpace (getD s at 0) = subst (λ (l : Text). segment l ≡ whiteSpace (getD s at 0)) c (space-segment s at (sym e ∙ q)) in
       true≢false (sym (ap (λ (g : Segment). isSkippedSort (g .sort)) w) ∙ subst (λ (l : Text). isSkipped l ≡ false) c h)
 
-  module _ (kept : isSkipped (charsAt s at) ≡ false) (f : beginsWord k cs ≡ false) (n : k ≡ OTHER → ⊥) (m : k ≡ QUOTE → ⊥)
-      (o : k ≡ APOSTROPHE → ⊥) (d : k ≡ DOLLAR → ⊥) where
-    is-slash : (b : Bool) → (k is SLASH) ≡ b → k ≡ SLASH
-    unfolding beginsWord
-    is-slash true q = eqb-true k SLASH q
-    is-slash false q =
-        let x : (k is LETTER || k is DIGIT || within 1 25 k) ≡ false = rw (ne-eqb k DOLLAR d, q) at f in
-        let y = or-neither (k is LETTER || k is DIGIT) (within 1 25 k) x in
-        let z = or-neither (k is LETTER) (k is DIGIT) (y .0) in
-        let one : 1 ≤ k = other-one k n in
-        let top : k ≤ 31 = subst (λ (v : ℕ). v ≤ 31) (sym e) (class-bound (getD s at 0) (subst (λ (v : ℕ). 1 ≤ v) e one)) in
-        let a = no-space kept in
-        absurd (last k one top m o d (eqb-false k LETTER (z .0)) (eqb-false k DIGIT (z .1)) (y .1) a)
+  module _ (kept : isSkipped (charsAt s at) ≡ false) (n : k ≡ OTHER → ⊥) (m : k ≡ QUOTE → ⊥) (o : k ≡ APOSTROPHE → ⊥) where
+    -- What is left are the classes with which a word can begin.
+    pub word-class : isWordClass k ≡ true
+    unfolding isWordClass
+    word-class = go (isWordClass k) refl
       where
-        other-one : (k : ℕ) → (k ≡ 0 → ⊥) → 1 ≤ k
-        other-one k g = ⊎-elim (λ h. absurd (g (omega arith))) (λ h. h) (le-or-lt k 0)
+        some : 1 ≤ k
+        some = ⊎-elim (λ h. absurd (n (omega arith))) (λ h. h) (le-or-lt k 0)
+
+        top : k ≤ 31
+        top = subst (λ (v : ℕ). v ≤ 31) (sym e) (class-bound (getD s at 0) (subst (λ (v : ℕ). 1 ≤ v) e some))
 
         last : (k : ℕ) → 1 ≤ k → k ≤ 31 → (k ≡ 28 → ⊥) → (k ≡ 27 → ⊥) → (k ≡ 29 → ⊥) → (k ≡ 30 → ⊥) → (k ≡ 31 → ⊥) → within 1 25 k ≡ false → (k ≡ 26 → ⊥) → ⊥
         last k a b q p r l g w h =
@@ -125,6 +120,24 @@ module _ (s : List ℕ) (at k : ℕ) (e : k ≡ classOf (getD s at 0)) where
             (λ z. ⊎-elim (λ u. q (omega arith))
             (λ u. ⊎-elim (λ v. r (omega arith)) (λ v. ⊎-elim (λ t. l (omega arith)) (λ t. g (omega arith)) (le-or-lt k 30)) (le-or-lt k 29))
             (le-or-lt k 28)) (le-or-lt k 27)) (le-or-lt k 26)) (le-or-lt k 25)
+
+        go : (b : Bool) → isWordClass k ≡ b → b ≡ true
+        go true x = refl
+        go false x =
+            let y = or-neither (k is DOLLAR || k is LETTER || k is DIGIT) (within 1 25 k) x in
+            let z = or-neither (k is DOLLAR || k is LETTER) (k is DIGIT) (y .0) in
+            let w = or-neither (k is DOLLAR) (k is LETTER) (z .0) in
+            absurd (last k some top m o (eqb-false k DOLLAR (w .0)) (eqb-false k LETTER (w .1)) (eqb-false k DIGIT (z .1)) (y .1) (no-space kept))
+
+  module _ (kept : isSkipped (charsAt s at) ≡ false) (f : beginsWord k cs ≡ false) (n : k ≡ OTHER → ⊥) (m : k ≡ QUOTE → ⊥)
+      (o : k ≡ APOSTROPHE → ⊥) (d : k ≡ DOLLAR → ⊥) where
+    is-slash : (b : Bool) → (k is SLASH) ≡ b → k ≡ SLASH
+    unfolding beginsWord isWordClass
+    is-slash true q = eqb-true k SLASH q
+    is-slash false q =
+        let x : (k is LETTER || k is DIGIT || within 1 25 k) ≡ false = rw (ne-eqb k DOLLAR d, q) at f in
+        let y : (k is LETTER || k is DIGIT || within 1 25 k) ≡ true = rw (ne-eqb k DOLLAR d) at (word-class kept n m o) in
+        absurd (true≢false (sym y ∙ x))
 
     -- Three slashes stand here, or a block doc comment opens.
     pub doc-stands : startsWith slashes (charsAt s at) ≡ false → opensDoc (charsAt s at) ≡ true

@@ -25,7 +25,8 @@ use Rattle.scanner.specs.Tokens.{outsideAt, madeToken, partToken, isEnde
 use Rattle.scanner.specs.declared.Within.the-variants.{Outside}
 use Rattle.output.proofs.Buffers.{put-none}
 use Rattle.walks.proofs.Errors.{put-no}
-use Rattle.scanner.proofs.Entries.{made-is, made-none, made-entry, part-entry, error-part}
+use Rattle.records.proofs.KindLaws.{error-part}
+use Rattle.scanner.proofs.Entries.{made-is, made-none, made-entry, part-entry}
 
 -- The span of a token that was reached starts where the token does.
 pub span-start : (p q : Position) (t : Text) → q ≡ advances p t → span p q .start ≡ p .offset

@@ -34,7 +34,8 @@ use Rattle.scanner.specs.declared.Cursor.{Cursor}
 use Rattle.scanner.specs.declared.Token as code
 use Rattle.scanner.specs.declared.Within as W
 use Rattle.scanner.specs.declared.Within.the-variants.{Outside, Inside, Ended}
-use Rattle.scanner.proofs.Entries.{made-none, bare-entry, eof-bare, eof-part}
+use Rattle.records.proofs.KindLaws.{eof-bare, eof-part}
+use Rattle.scanner.proofs.Entries.{made-none, bare-entry}
 
 -- ── What is still to come ──
 

@@ -6,7 +6,6 @@ use Prim.Native.Nat.{ℕ, zero, suc, _+_, _-_, _≤_, _<_}
 use lib.ListN.{length, take, drop, length-append}
 use lib.Seq.{take-append-seam}
 use native.Mathlib.Omega.{arith}
-use Rattle.characters.specs.Choice.{within}
 use Rattle.characters.specs.Utf8.{charsAt, width, bytes, encode}
 use Rattle.characters.proofs.Texts.{encode-length}
 use Rattle.characters.proofs.Widths.{width-bounds}
@@ -15,7 +14,7 @@ use Rattle.spans.specs.declared.Span.{Span}
 use Rattle.rules.specs.Text.{Text, LF, isEmpty}
 use Rattle.rules.specs.Scan.{next}
 use Rattle.rules.specs.Strings.{isInterpStart}
-use Rattle.rules.specs.Tables.{StringLiteral, StringInterpStart, UnterminatedString, LineFeedInString}
+use Rattle.rules.specs.Tables.{StringLiteral, UnterminatedString, LineFeedInString}
 use Rattle.rules.specs.Tokens.{Token, TokenizeError}
 use Rattle.rules.specs.Lexer.{advance, advances, span, Lexed}
 use Rattle.cursor.specs.declared.Cursor.{Cursor}
@@ -27,7 +26,7 @@ use Rattle.cursor.proofs.Pieces.{stops-dollar, first-gives, piece-end, piece-fe
 use Rattle.bridge.specs.Bridge.{Within, Reach, exactly}
 use Rattle.output.specs.Writing.{Put}
 use Rattle.output.proofs.Buffers.{put-then}
-use Rattle.records.specs.Kinds.{isMade}
+use Rattle.records.proofs.KindLaws.{string-made, interp-made}
 use Rattle.records.specs.Layout.{errorBytes}
 use Rattle.records.proofs.Filling.{errors-append}
 use Rattle.walks.specs.Errors.{unclosed}
@@ -100,16 +99,6 @@ put-empty : (old new : List ℕ) (at r : ℕ) (vs : List ℕ) → Put old new at
 put-empty old new at r [] w e = w .written
 put-empty old new at r (v ∷ vs) w e = absurd (omega (arith, w .place))
 
--- ── The kinds of pieces ──
-
-literal-made : isMade StringLiteral ≡ true
-unfolding isMade within
-literal-made = refl
-
-interp-made : isMade StringInterpStart ≡ true
-unfolding isMade within
-interp-made = refl
-
 not-first : (a b : Bool) → (a && not b) ≡ true → b ≡ false
 not-first true false e = refl
 not-first true true e = absurd (false≢true e)
@@ -179,7 +168,7 @@ module _ (s : List ℕ) (p start : Position) (first : Bool) (texts texts′ : Li
         text = m;
         recorded = es ++ fs;
         same = e;
-        kind-made = literal-made;
+        kind-made = string-made;
         offset = refl;
         size = omega (arith, y .made .place);
         made = y .made;

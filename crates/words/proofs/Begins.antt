@@ -25,7 +25,7 @@ use Rattle.bridge.proofs.Tests.{low-weak}
 use Rattle.bridge.proofs.Bytes.{byte-next, starts-one}
 use Rattle.bridge.proofs.Cuts.{cut-nothing, cut-cons, cut-length}
 use Rattle.words.specs.Classes.{SLASH, DOLLAR, LETTER, DIGIT, classOf}
-use Rattle.words.specs.Words.{beginsWord, Begun, WordAt}
+use Rattle.words.specs.Words.{isWordClass, beginsWord, Begun, WordAt}
 use Rattle.words.proofs.Tests.{digit-low, part-low}
 use Rattle.words.proofs.Words.{word-of, word-last, text-plain, end-word}
 use Rattle.words.proofs.Numbers.{run-some}
@@ -154,6 +154,8 @@ module _ (k : ℕ) (cs : Text) where
   unfolding beginsWord
   begins-slash a b e p q = rw (e, starts-one 47 cs, starts-one 42 cs, p, q)
 
-  pub begins-other : (k ≡ DOLLAR → ⊥) → (k ≡ SLASH → ⊥) → (k is LETTER || k is DIGIT || leb 1 k && leb k 25) ≡ beginsWord k cs
-  unfolding beginsWord within
-  begins-other n m = rw (ne-eqb k DOLLAR n, ne-eqb k SLASH m)
+  pub begins-other : (k ≡ DOLLAR → ⊥) → (k ≡ SLASH → ⊥) → isWordClass k ≡ true → true ≡ beginsWord k cs
+  unfolding beginsWord isWordClass
+  begins-other n m e =
+      let h : (k is LETTER || k is DIGIT || within 1 25 k) ≡ true = rw (ne-eqb k DOLLAR n) at e in
+      rw (ne-eqb k DOLLAR n, ne-eqb k SLASH m, h)

@@ -5,14 +5,15 @@ use mathlib.Core.Logic.{_⊎_, ⊎-elim}
 use mathlib.Core.List.{List, [], _∷_}
 use mathlib.Core.Option.{Option, none, some}
 use Prim.Native.Nat.{ℕ, suc, _+_, _-_, _≤_, _<_}
+use lib.Dec.{leb}
 use lib.ListN.{length, getD}
 use native.Mathlib.Omega.{arith}
-use borrow.Author.Tests.{le-leb, lt-leb, eqb-true, eq-eqb, not-true}
+use borrow.Author.Tests.{le-leb, lt-leb, leb-true, eqb-true, eq-eqb, not-true}
 use Rattle.characters.specs.Choice.{if_then_else_, _is_, within}
 use Rattle.characters.specs.Space.{isWhite}
 use Rattle.characters.specs.Utf8.{charsAt}
 use Rattle.characters.proofs.Decoding.{octet-there}
-use Rattle.characters.proofs.Choice.{and-both, within-yes, within-bounds, le-or-lt}
+use Rattle.characters.proofs.Choice.{and-both, if-all, within-yes, within-bounds, le-or-lt}
 use Rattle.rules.specs.Text.{Char, Text, text, oneOf, isDigit, isLetter, isIdentStart}
 use Rattle.rules.specs.Scan.{next, Part, nothing, takes}
 use Rattle.rules.specs.Tables.{DoubleColonT, Row, MARKS, THIRDS, lookup}
@@ -443,6 +444,39 @@ module _ (s : List ℕ) (at first lone x kind : ℕ) (q : first ≡ classOf (get
 
         pub third-not : next (exactly z) (charsAt s (at + 2)) ≡ false → At kind 2 2
         third-not u = short-word s at R (its-row .1) kind two-found t third-found (looked false u)
+
+-- ── Marks that stand alone, whatever follows ──
+
+-- A column of a row has the kind of column 0.
+unfoldable alone : ℕ → ℕ → Bool
+alone first column = pairKind (charOf first) (charOf column) is pairKind (charOf first) 0
+
+-- From the class 15 on every column has.
+delimiter-test : allBelow (λ i. allBelow (alone (15 + i)) 12) 11 ≡ true
+unfolding allBelow alone pairKind kindIn lookup MARKS charOf markChars orElse
+delimiter-test = refl
+
+column-low : (k : ℕ) → columnOf k < 12
+unfolding columnOf
+column-low k =
+    if-all (λ (n : ℕ). n < 12) (leb k 11) (λ e. let h = leb-true k 11 e in omega arith) (λ _. omega arith)
+
+delimiter-kind : (first x : ℕ) → 15 ≤ first → first ≤ 25
+    → pairKind (charOf first) (charOf (columnOf x)) ≡ pairKind (charOf first) 0
+unfolding alone
+delimiter-kind first x h l =
+    let e : 15 + (first - 15) ≡ first = omega arith in
+    let row : allBelow (alone (15 + (first - 15))) 12 ≡ true = below (λ i. allBelow (alone (15 + i)) 12) 11 delimiter-test (first - 15) (omega arith) in
+    let row′ : allBelow (alone first) 12 ≡ true = rw e at row in
+    eqb-true (pairKind (charOf first) (charOf (columnOf x))) (pairKind (charOf first) 0) (below (alone first) 12 row′ (columnOf x) (column-low x))
+
+pub delimiter-word : (s : List ℕ) (at first lone : ℕ) → first ≡ classOf (getD s at 0) → 15 ≤ first → first ≤ 25
+    → lone ≡ pairKind (charOf first) (charOf (columnOf 0))
+    → WordAt s at (parseMark (getD s at 0) (charsAt s (at + 1))) lone 1 0
+unfolding columnOf charOf
+delimiter-word s at first lone q h l a =
+    let x = classOf (getD s (at + 1) 0) in
+    lone-word s at first lone x lone q (omega arith) l a refl (a ∙ sym (delimiter-kind first x h l)) refl
 
 -- ── The functions of the table ──
 

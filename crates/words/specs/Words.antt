@@ -39,6 +39,10 @@ pub record WordAt (s : List ℕ) (at : ℕ) (g : Segment) (k n e : ℕ) : Type 0
   pub some : 1 ≤ n
   pub short : e ≤ n
 
+-- The classes of the characters with which a word can begin.
+unfoldable pub isWordClass : ℕ → Bool
+isWordClass k = k is DOLLAR || k is LETTER || k is DIGIT || within 1 25 k
+
 -- A word begins with a character of the class `k` before `cs`: a letter, a digit, a dollar sign that opens no braces, a mark that
 -- begins no comment.
 unfoldable pub beginsWord : ℕ → Text → Bool

@@ -9,8 +9,6 @@ pub const OTHER: u8 = 0;
 
 pub const SLASH: u8 = 13;
 
-pub const LAST_MARK: u8 = 25;
-
 pub const SPACE: u8 = 26;
 
 pub const APOSTROPHE: u8 = 27;

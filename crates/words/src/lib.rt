@@ -1,10 +1,11 @@
 // Words: names, keywords, numbers, marks and the lone dollar sign. They are ASCII and stand on one line.
 ghost use mathlib.Core.Path.{_≡_};
+ghost use mathlib.Core.Bool.{true};
 ghost use Prim.Native.Nat.{_+_, _<_};
 ghost use lib.ListN.{length};
 ghost use Rattle.characters.specs.Utf8.{charsAt};
 ghost use Rattle.rules.specs.Lexer.{segment};
-ghost use Rattle.words.specs.Words.{beginsWord, Lent, Begun, WordAt};
+ghost use Rattle.words.specs.Words.{isWordClass, beginsWord, Lent, Begun, WordAt};
 
 pub mod class; // class.rt: the classes of the ASCII characters
 pub mod number; // number.rt: numbers
@@ -25,9 +26,10 @@ pub struct Word {
     pub extent: usize,
 }
 
-// Whether a word begins with the character at a place, of the class that is told.
+// Whether a word begins with the character at a place, of the class that is told, with which one can begin.
 pub fn begins_word(text: &[u8], at: usize, class: u8) -> bool
     requires { ⌜ at < length (now text) ⌝ }
+    requires { ⌜ isWordClass class ≡ true ⌝ }
     ensures { λ r. ⌜ r ≡ beginsWord class (charsAt (now (text .entry)) (at + 1)) ⌝ }
 {
     if class == class::DOLLAR {
@@ -37,9 +39,7 @@ pub fn begins_word(text: &[u8], at: usize, class: u8) -> bool
         let comment = bridge::is_at(text, at + 1, 47) | bridge::is_at(text, at + 1, 42);
         return !comment;
     }
-    (class == class::LETTER)
-        | (class == class::DIGIT)
-        | ((1 <= class) & (class <= class::LAST_MARK))
+    true
 }
 
 // The word at a place, of the class that is told. The tables are those of class_table, mark_table, slot_table and keyword_table.

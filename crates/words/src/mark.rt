@@ -10,6 +10,9 @@ ghost use Rattle.words.specs.Words.{WordAt};
 use super::Word;
 use super::class::class_at;
 
+// The first class of the marks that are part of no longer one: `(`.
+const DELIMITER: u8 = 15;
+
 // The kinds of the marks: a row for each first mark, in the order of the classes 1 to 25, and a column for each next mark, in the
 // order of the classes 1 to 11; column 0 is any other next character, or none.
 const MARKS: [[u8; 12]; 25] = [
@@ -86,8 +89,8 @@ fn third_kind(kind: u8) -> u8
     0
 }
 
-// The mark at a place, of the class first: a lone one has no extent.
-pub fn mark_at(
+// The mark at a place, of the class first, which may have two or three characters: a lone one has no extent.
+fn longer_mark(
     classes: &[u8; 128],
     marks: &[[u8; 12]; 25],
     text: &[u8],
@@ -131,4 +134,30 @@ pub fn mark_at(
         length: 2,
         extent: 2,
     }
+}
+
+// The mark at a place, of the class first. Those from the class DELIMITER on stand alone, whatever follows.
+pub fn mark_at(
+    classes: &[u8; 128],
+    marks: &[[u8; 12]; 25],
+    text: &[u8],
+    at: usize,
+    first: u8,
+) -> Word
+    requires { ⌜ now classes ≡ classTable ⌝ }
+    requires { ⌜ now marks ≡ markTable ⌝ }
+    requires { ⌜ first ≡ classOf (getD (now text) at 0) ⌝ }
+    requires { ⌜ 1 ≤ first ⌝ }
+    requires { ⌜ first ≤ 25 ⌝ }
+    ensures { λ r. ⌜ WordAt (now (text .entry)) at (parseMark (getD (now (text .entry)) at 0) (charsAt (now (text .entry)) (at + 1))) (r .kind) (r .length) (r .extent) ⌝ }
+{
+    if DELIMITER <= first {
+        let kind = mark_kind(marks, first, 0);
+        return Word {
+            kind,
+            length: 1,
+            extent: 0,
+        };
+    }
+    longer_mark(classes, marks, text, at, first)
 }

@@ -4,7 +4,7 @@ ghost use mathlib.Core.Bool.{true};
 ghost use Prim.Native.Nat.{_≤_};
 ghost use lib.ListN.{length};
 ghost use Rattle.characters.specs.Utf8.{charsAt};
-ghost use Rattle.rules.specs.Text.{isIdentPart};
+ghost use Rattle.rules.specs.Text.{isLetter, isIdentPart};
 ghost use Rattle.rules.specs.Scan.{next, run};
 ghost use Rattle.rules.specs.Names.{parseIdentifierOrKeyword};
 ghost use Rattle.bridge.specs.Bridge.{Cut};
@@ -13,15 +13,21 @@ ghost use Rattle.words.specs.Words.{WordAt};
 use super::Word;
 use super::keyword::name_kind;
 
-// A letter, a digit, an underscore or a dollar sign.
+// A letter, small or capital.
+fn is_letter(b: u8) -> bool
+    ensures { λ r. ⌜ r ≡ isLetter b ⌝ }
+{
+    ((65 <= b) & (b <= 90)) | ((97 <= b) & (b <= 122))
+}
+
+// A letter, a digit, an underscore or a dollar sign. Letters are asked for first: most characters of names are such.
 pub fn is_part(b: u8) -> bool
     ensures { λ r. ⌜ r ≡ isIdentPart b ⌝ }
 {
-    ((65 <= b) & (b <= 90))
-        | ((97 <= b) & (b <= 122))
-        | ((48 <= b) & (b <= 57))
-        | (b == 95)
-        | (b == 36)
+    if is_letter(b) {
+        return true;
+    }
+    ((48 <= b) & (b <= 57)) | (b == 95) | (b == 36)
 }
 
 // The end of the name at a place.

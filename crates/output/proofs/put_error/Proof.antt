@@ -7,56 +7,53 @@ use borrow.Author.Needs.{needs}
 use Rattle.records.specs.Records.{errorRecord}
 use Rattle.records.proofs.Bytes.{length-error}
 use Rattle.output.proofs.Lengths.{error-bounds}
-use Rattle.output.proofs.Buffers.{whole-room, whole-put, none-put, cut-put, same-size}
+use Rattle.output.proofs.Buffers.{whole-put, none-put, cut-put, same-size}
 use Rattle.output.proofs.put_error.Statement.{statement}
 use Rattle.output.proofs.put_error.Tie as tie
 
 error-length-requires : tie.Need-error-length-requires
 error-length-requires c κs = search needs
 
-fitting-requires : tie.Need-fitting-requires
-fitting-requires c κs = search needs
+add-if1 : tie.Need-add-if1
+add-if1 c =
+    let a = c .before .before .args in
+    omega (arith, c .error-length .ensures, error-bounds (a .kind))
 
 put-error-requires : tie.Need-put-error-requires
-put-error-requires c κs =
-    let a = c .before .before .before .before .before .args in
-    whole-room _ _ _ _ _ (c .before .before .fitting .ensures) (c .before .if1 .taken)
-    (c .before .before .before .error-length .ensures) (error-bounds (a .kind) .0)
+put-error-requires c κs = omega (arith, c .before .before .error-length .ensures, c .before .if1 .taken)
 
 same-length : tie.Need-same-length
 same-length c = search needs
 
 returns : tie.Need-returns
 returns c =
-    let a = c .before .before .before .before .before .before .before .before .args in
+    let a = c .before .before .before .before .before .before .before .args in
     let p = c .before .before .put-error .ensures in
     whole-put _ _ _ _ _ _ (length-error (a .kind) (a .span) (a .code)) (p .0) (p .1)
 
 add-result : tie.Need-add-result
 add-result c =
-    let n = c .before .before .before .error-length .ensures in
-    omega (arith, n, error-bounds (c .before .before .before .before .before .args .kind))
+    let a = c .before .before .before .before .args in
+    omega (arith, c .before .before .error-length .ensures, error-bounds (a .kind))
 
 returns-2 : tie.Need-returns-2
 returns-2 c =
-    let a = c .before .before .before .before .before .args in
-    let n = c .before .before .before .error-length .ensures in
-    let f = c .before .before .fitting .ensures in
-    none-put _ _ _ _ _ (length-error (a .kind) (a .span) (a .code) ∙ sym n) f (c .before .if1 .left) (c .if2 .taken)
+    let a = c .before .before .before .before .args in
+    none-put _ _ _ _ (length-error (a .kind) (a .span) (a .code) ∙ sym (c .before .before .error-length .ensures)) (c .if2 .taken)
 
 slice-aggregate-put-error : tie.Need-slice-aggregate-put-error
 slice-aggregate-put-error c = search needs
 
 put-error-requires-2 : tie.Need-put-error-requires-2
-put-error-requires-2 c κs = omega (arith, error-bounds (c .before .before .before .before .before .before .args .kind))
+put-error-requires-2 c κs = omega (arith, error-bounds (c .before .before .before .before .before .args .kind))
 
 slice-aggregate-put-part : tie.Need-slice-aggregate-put-part
 slice-aggregate-put-part c = search needs
 
 put-part-requires : tie.Need-put-part-requires
 put-part-requires c κs =
-    let a = c .before .before .before .before .before .before .before .before .before .before .args in
-    let n = c .before .before .before .before .before .before .before .before .error-length .ensures in
+    let a = c .before .before .before .before .before .before .before .before .before .args in
+    let n = c .before .before .before .before .before .before .before .error-length .ensures in
     let v = errorRecord (a .kind) (a .span) (a .code) in
     let s = same-size _ (replicate 29 0) 0 v (c .before .before .before .put-error2 .ensures .1) in
     omega (arith, error-bounds (a .kind))
@@ -66,8 +63,8 @@ same-length-2 c = search needs
 
 returns-3 : tie.Need-returns-3
 returns-3 c =
-    let a = c .before .before .before .before .before .before .before .before .before .before .before .before .before .args in
-    let n = c .before .before .before .before .before .before .before .before .before .before .before .error-length .ensures in
+    let a = c .before .before .before .before .before .before .before .before .before .before .before .before .args in
+    let n = c .before .before .before .before .before .before .before .before .before .before .error-length .ensures in
     let m = error-bounds (a .kind) in
     cut-put _ _ _ (replicate 29 0) _ _ _ _ (length-error (a .kind) (a .span) (a .code) ∙ sym n) (omega (arith, m))
     (c .before .before .before .before .before .before .put-error2 .ensures .1) (c .before .before .put-part .ensures)
@@ -77,7 +74,7 @@ put-error-spec =
     tie.close
     (tie.spec
     error-length-requires
-    fitting-requires
+    add-if1
     put-error-requires
     same-length
     returns

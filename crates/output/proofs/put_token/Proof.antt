@@ -7,56 +7,53 @@ use borrow.Author.Needs.{needs}
 use Rattle.records.specs.Records.{tokenRecord}
 use Rattle.records.proofs.Bytes.{length-token}
 use Rattle.output.proofs.Lengths.{record-bounds}
-use Rattle.output.proofs.Buffers.{whole-room, whole-put, none-put, cut-put, same-size}
+use Rattle.output.proofs.Buffers.{whole-put, none-put, cut-put, same-size}
 use Rattle.output.proofs.put_token.Statement.{statement}
 use Rattle.output.proofs.put_token.Tie as tie
 
 record-length-requires : tie.Need-record-length-requires
 record-length-requires c κs = search needs
 
-fitting-requires : tie.Need-fitting-requires
-fitting-requires c κs = search needs
+add-if1 : tie.Need-add-if1
+add-if1 c =
+    let a = c .before .before .args in
+    omega (arith, c .record-length .ensures, record-bounds (a .kind))
 
 put-token-requires : tie.Need-put-token-requires
-put-token-requires c κs =
-    let a = c .before .before .before .before .before .args in
-    whole-room _ _ _ _ _ (c .before .before .fitting .ensures) (c .before .if1 .taken)
-    (c .before .before .before .record-length .ensures) (record-bounds (a .kind) .0)
+put-token-requires c κs = omega (arith, c .before .before .record-length .ensures, c .before .if1 .taken)
 
 same-length : tie.Need-same-length
 same-length c = search needs
 
 returns : tie.Need-returns
 returns c =
-    let a = c .before .before .before .before .before .before .before .before .args in
+    let a = c .before .before .before .before .before .before .before .args in
     let p = c .before .before .put-token .ensures in
     whole-put _ _ _ _ _ _ (length-token (a .kind) (a .span) (a .offset) (a .len)) (p .0) (p .1)
 
 add-result : tie.Need-add-result
 add-result c =
-    let n = c .before .before .before .record-length .ensures in
-    omega (arith, n, record-bounds (c .before .before .before .before .before .args .kind))
+    let a = c .before .before .before .before .args in
+    omega (arith, c .before .before .record-length .ensures, record-bounds (a .kind))
 
 returns-2 : tie.Need-returns-2
 returns-2 c =
-    let a = c .before .before .before .before .before .args in
-    let n = c .before .before .before .record-length .ensures in
-    let f = c .before .before .fitting .ensures in
-    none-put _ _ _ _ _ (length-token (a .kind) (a .span) (a .offset) (a .len) ∙ sym n) f (c .before .if1 .left) (c .if2 .taken)
+    let a = c .before .before .before .before .args in
+    none-put _ _ _ _ (length-token (a .kind) (a .span) (a .offset) (a .len) ∙ sym (c .before .before .record-length .ensures)) (c .if2 .taken)
 
 slice-aggregate-put-token : tie.Need-slice-aggregate-put-token
 slice-aggregate-put-token c = search needs
 
 put-token-requires-2 : tie.Need-put-token-requires-2
-put-token-requires-2 c κs = omega (arith, record-bounds (c .before .before .before .before .before .before .args .kind))
+put-token-requires-2 c κs = omega (arith, record-bounds (c .before .before .before .before .before .args .kind))
 
 slice-aggregate-put-part : tie.Need-slice-aggregate-put-part
 slice-aggregate-put-part c = search needs
 
 put-part-requires : tie.Need-put-part-requires
 put-part-requires c κs =
-    let a = c .before .before .before .before .before .before .before .before .before .before .args in
-    let n = c .before .before .before .before .before .before .before .before .record-length .ensures in
+    let a = c .before .before .before .before .before .before .before .before .before .args in
+    let n = c .before .before .before .before .before .before .before .record-length .ensures in
     let v = tokenRecord (a .kind) (a .span) (a .offset) (a .len) in
     let s = same-size _ (replicate 33 0) 0 v (c .before .before .before .put-token2 .ensures .1) in
     omega (arith, record-bounds (a .kind))
@@ -66,8 +63,8 @@ same-length-2 c = search needs
 
 returns-3 : tie.Need-returns-3
 returns-3 c =
-    let a = c .before .before .before .before .before .before .before .before .before .before .before .before .before .args in
-    let n = c .before .before .before .before .before .before .before .before .before .before .before .record-length .ensures in
+    let a = c .before .before .before .before .before .before .before .before .before .before .before .before .args in
+    let n = c .before .before .before .before .before .before .before .before .before .before .record-length .ensures in
     let m = record-bounds (a .kind) in
     cut-put _ _ _ (replicate 33 0) _ _ _ _ (length-token (a .kind) (a .span) (a .offset) (a .len) ∙ sym n) (omega (arith, m))
     (c .before .before .before .before .before .before .put-token2 .ensures .1) (c .before .before .put-part .ensures)
@@ -77,7 +74,7 @@ put-token-spec =
     tie.close
     (tie.spec
     record-length-requires
-    fitting-requires
+    add-if1
     put-token-requires
     same-length
     returns

@@ -29,7 +29,7 @@ returns-2 : tie.Need-returns-2
 returns-2 c = begins-slash _ _ _ _ (c .before .before .if2 .taken) (c .before .is-at2 .ensures) (c .is-at3 .ensures)
 
 returns-3 : tie.Need-returns-3
-returns-3 c = begins-other _ _ (c .before .if1 .left) (c .if2 .left)
+returns-3 c = begins-other _ _ (c .before .if1 .left) (c .if2 .left) (c .before .before .before .pre .1)
 
 pub begins-word-spec : {M : Type 1} → statement M
 begins-word-spec =

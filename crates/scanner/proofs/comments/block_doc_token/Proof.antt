@@ -1,7 +1,7 @@
 -- `comments::block_doc_token` meets its contract.
 use Rattle.rules.specs.Docs.{cleanDoc}
 use Rattle.scanner.proofs.Parts.{made-of}
-use Rattle.scanner.proofs.Entries.{doc-made}
+use Rattle.records.proofs.KindLaws.{doc-made}
 use Rattle.scanner.proofs.Founds.{made-found}
 use borrow.Author.Needs.{needs}
 use Rattle.scanner.proofs.comments.block_doc_token.Statement.{statement}

@@ -2,7 +2,7 @@
 use mathlib.Core.Path.{refl}
 use Rattle.rules.specs.Docs.{trim}
 use Rattle.scanner.proofs.Parts.{made-of}
-use Rattle.scanner.proofs.Entries.{doc-made}
+use Rattle.records.proofs.KindLaws.{doc-made}
 use Rattle.scanner.proofs.Founds.{clean-found}
 use borrow.Author.Needs.{needs}
 use Rattle.scanner.proofs.comments.line_doc_token.Statement.{statement}

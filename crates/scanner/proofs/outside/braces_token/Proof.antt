@@ -1,7 +1,7 @@
 -- `outside::braces_token` meets its contract.
 use Rattle.scanner.proofs.Founds.{clean-found}
 use mathlib.Core.Path.{refl}
-use Rattle.scanner.proofs.Entries.{interp-made}
+use Rattle.records.proofs.KindLaws.{interp-made}
 use borrow.Author.Needs.{needs}
 use Rattle.scanner.proofs.outside.braces_token.Statement.{statement}
 use Rattle.scanner.proofs.outside.braces_token.Tie as tie

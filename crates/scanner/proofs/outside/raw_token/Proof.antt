@@ -1,6 +1,6 @@
 -- `outside::raw_token` meets its contract.
 use Rattle.scanner.proofs.Founds.{made-found}
-use Rattle.scanner.proofs.Entries.{string-made}
+use Rattle.records.proofs.KindLaws.{string-made}
 use borrow.Author.Needs.{needs}
 use native.Mathlib.Omega.{arith}
 use Rattle.scanner.proofs.outside.raw_token.Statement.{statement}

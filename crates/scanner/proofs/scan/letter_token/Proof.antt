@@ -1,6 +1,6 @@
 -- `scan::letter_token` meets its contract.
 use Rattle.scanner.proofs.Founds.{made-found}
-use Rattle.scanner.proofs.Entries.{char-made}
+use Rattle.records.proofs.KindLaws.{char-made}
 use borrow.Author.Needs.{needs}
 use native.Mathlib.Omega.{arith}
 use Rattle.scanner.proofs.scan.letter_token.Statement.{statement}

@@ -1,7 +1,7 @@
 -- `scan::scan_at` meets its contract.
 use mathlib.Core.Path.{sym, _∙_}
 use Rattle.scanner.proofs.Giving.{found-given}
-use Rattle.scanner.proofs.Choices.{class-in, quote-stands, apostrophe-stands, brace-stands, doc-stands}
+use Rattle.scanner.proofs.Choices.{class-in, word-class, quote-stands, apostrophe-stands, brace-stands, doc-stands}
 use borrow.Author.Needs.{needs}
 use Rattle.scanner.proofs.scan.scan_at.Statement.{statement}
 use Rattle.scanner.proofs.scan.scan_at.Tie as tie
@@ -46,7 +46,14 @@ returns-3 : tie.Need-returns-3
 returns-3 c = found-given _ _ _ _ _ _ _ _ _ (c .before .before .before .before .letter-token .result) (c .before .before .before .before .letter-token .ensures)
 
 begins-word-requires : tie.Need-begins-word-requires
-begins-word-requires c κs = let a = c .before .before .before .before .before .before .before .args in class-in (a .text .now) (a .p .offset) _ (c .before .before .before .class-at .ensures) (c .before .before .if1 .left)
+begins-word-requires c κs =
+    let s = c .before .before .before .before .before .before .before in
+    let a = s .args in
+    let class = c .before .before .before .class-at .ensures in
+    let other = c .before .before .if1 .left in (
+      class-in (a .text .now) (a .p .offset) _ class other,
+      word-class (a .text .now) (a .p .offset) _ class (s .pre .1 .1 .0) other (c .before .if2 .left) (c .if3 .left),
+    )
 
 word-token-requires : tie.Need-word-token-requires
 word-token-requires c κs = let s = c .before .before .before .before .before .before .before .before .before in (s .pre .0, (s .pre .1 .0, record { class-is = c .before .before .before .before .before .class-at .ensures; begins = sym (c .before .begins-word .ensures) ∙ c .if4 .taken }))
