@@ -15,9 +15,9 @@ use records::answers::TokenRecord;
 use records::errors;
 use records::kinds;
 use records::read;
-use records::spelling;
 use records::text;
 use spans::Span;
+use spellings::spelling;
 
 // A letter, a kind and a span.
 fn put_head(letter: u8, kind: u8, s: Span, buf: &mut [u8], at: usize) -> usize
@@ -44,7 +44,7 @@ fn put_fixed(kind: u8, s: Span, buf: &mut [u8], at: usize) -> usize
     requires { ⌜ at ≤ 600000000000000000 ⌝ }
     ensures { λ r. ⌜ Put (now (buf .entry)) (now (buf .exit)) at (tokenLine (token kind (spelling kind) s)) r ⌝ }
 {
-    let row = spelling::spelling(kind);
+    let row = spelling(kind);
     let end = row[0] as usize + 1;
     put_token(kind, s, &row[1..end], buf, at)
 }

@@ -4,7 +4,6 @@ pub mod Bytes
 pub mod Places
 pub mod Turns
 pub mod TextLaws
-pub mod Words
 pub mod Shift
 pub mod Front
 pub mod Back

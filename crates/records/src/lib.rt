@@ -4,6 +4,5 @@ pub mod errors;
 pub mod kinds;
 pub mod read;
 pub mod refusals;
-pub mod spelling;
 pub mod text;
 pub mod write;

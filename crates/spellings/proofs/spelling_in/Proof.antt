@@ -1,9 +1,9 @@
 use mathlib.Core.Path.{sym}
-use Rattle.records.proofs.Words.{row-of, row-none}
+use Rattle.spellings.proofs.Rows.{row-of, row-none}
 use borrow.Author.Needs.{needs}
 use native.Mathlib.Omega.{arith}
-use Rattle.records.proofs.spelling.spelling_in.Statement.{statement}
-use Rattle.records.proofs.spelling.spelling_in.Tie as tie
+use Rattle.spellings.proofs.spelling_in.Statement.{statement}
+use Rattle.spellings.proofs.spelling_in.Tie as tie
 
 returns : tie.Need-returns
 returns c = sym (row-none _ (c .if1 .taken))

@@ -1,8 +1,8 @@
 use mathlib.Core.Path.{refl}
 use Rattle.records.specs.Spelling.{spellings, padded, joined, spellingTable}
 use borrow.Author.Needs.{needs}
-use Rattle.records.proofs.spelling.spelling.Statement.{statement}
-use Rattle.records.proofs.spelling.spelling.Tie as tie
+use Rattle.spellings.proofs.spelling.Statement.{statement}
+use Rattle.spellings.proofs.spelling.Tie as tie
 
 spelling-in-requires : tie.Need-spelling-in-requires
 unfolding spellingTable joined padded spellings
