@@ -120,11 +120,11 @@ uint64_t aura_measure(const uint8_t *script, size_t script_length, uint64_t answ
 /* The token record at a place. At EOF the next place is the same place. Refusal 7. */
 uint64_t aura_next_token(const uint8_t *tokens, size_t tokens_length, size_t place, uint64_t answer[AURA_TOKEN_SLOTS]);
 
-/* The same, and whether the token is of a kind. The next place is behind the record either way. Refusals 6 and 7. */
+/* The same, and whether the token is of a kind. The next place is behind the record either way; EOF is not left. Refusals 6 and 7. */
 uint64_t aura_consume(const uint8_t *tokens, size_t tokens_length, size_t place, uint64_t kind,
                       uint64_t answer[AURA_CONSUME_SLOTS]);
 
-/* Whether the token at a place is of a kind. The next place is behind the record only then. Refusals 6 and 7. */
+/* Whether the token at a place is of a kind. The next place is behind the record only then; EOF is not left. Refusals 6 and 7. */
 uint64_t aura_match_kind(const uint8_t *tokens, size_t tokens_length, size_t place, uint64_t kind,
                          uint64_t answer[AURA_MATCH_SLOTS]);
 
