@@ -32,7 +32,7 @@ impl<'a> TokenReader<'a> {
         Ok(Token::from_slots(&answer))
     }
 
-    /// The token at the place, and whether it is of the kind; the reader moves on either way.
+    /// The token at the place, and whether it is of the kind; the reader moves on either way, but does not leave EOF.
     pub fn consume(&mut self, kind: impl Into<u64>) -> Result<(Token, bool), Refusal> {
         let mut answer = [0; 11];
         let number = raw::consume(self.tokens, self.place, kind.into(), &mut answer);
@@ -41,7 +41,7 @@ impl<'a> TokenReader<'a> {
         Ok((Token::from_slots(&answer), answer[10] == 1))
     }
 
-    /// Whether the token at the place is of the kind; the reader moves on only then.
+    /// Whether the token at the place is of the kind; the reader moves on only then, and does not leave EOF.
     pub fn match_kind(&mut self, kind: impl Into<u64>) -> Result<bool, Refusal> {
         let mut answer = [0; 2];
         let number = raw::match_kind(self.tokens, self.place, kind.into(), &mut answer);
