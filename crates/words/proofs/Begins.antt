@@ -1,9 +1,8 @@
 -- The word that begins at a place, by its class. Assumes nothing.
 use mathlib.Core.Path.{_≡_, refl, sym, _∙_, ap, subst}
-use mathlib.Core.Bool.{Bool, true, false, _&&_, _||_, not, and-true, true≢false}
+use mathlib.Core.Bool.{Bool, true, false, _||_, not, and-true, true≢false}
 use mathlib.Core.List.{List, [], _∷_}
 use Prim.Native.Nat.{ℕ, _+_, _-_, _≤_, _<_}
-use lib.Dec.{leb}
 use lib.ListN.{length, getD}
 use lib.Seq.{slice}
 use native.Mathlib.Omega.{arith}

@@ -1,5 +1,4 @@
 -- `mark::mark_at` meets its contract. Assumes nothing.
-use native.Mathlib.Omega.{arith}
 use borrow.Author.Needs.{needs}
 use Rattle.words.proofs.Marks.{delimiter-word}
 use Rattle.words.proofs.mark.mark_at.Statement.{statement}
