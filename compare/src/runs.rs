@@ -77,7 +77,7 @@ fn shrink(script: &[u8]) -> Vec<u8> {
     best
 }
 
-/// The smallest input that is found to differ as this one does, and how.
+/// The smallest input that is found by leaving out parts of this one, and how it differs, which may be in another way.
 fn smallest(script: &[u8]) -> String {
     let least = shrink(script);
     let text = compare(&least).expect_err("it still differs");
@@ -198,7 +198,7 @@ pub fn large(seed: u64) -> bool {
         texts.push(scripts::cut("\"".to_string() + &part.repeat(LIMIT / part.len()), LIMIT));
     }
     for size in [1_000, 32_000, LIMIT] {
-        texts.push(imports::script(seed, size));
+        texts.push(scripts::cut(imports::script(seed, size + 4_000), size));
     }
     for text in texts {
         if !tally.add(text.as_bytes()) {
@@ -240,7 +240,7 @@ impl Archive {
             Err(text) => {
                 println!("different {name}: {text}");
                 if self.different == 0 {
-                    println!("  the smallest part of it that differs: {}", smallest(script));
+                    println!("  what is left of it, as little as was found to differ: {}", smallest(script));
                 }
                 self.different += 1;
             }
