@@ -10,7 +10,7 @@ ghost use Rattle.characters.specs.Choice.{if_then_else_, _is_};
 ghost use Rattle.characters.specs.Space.{isWhite};
 ghost use Rattle.characters.specs.Utf8.{charsOf};
 ghost use Rattle.rules.specs.Docs.{trim, trimEnd, cleanLine, cleanDoc};
-ghost use Rattle.output.specs.Writing.{Put};
+ghost use Rattle.output.specs.Writing.{Put, PLACES};
 ghost use Rattle.docs.specs.Lines.{NextAt, Skipped, inLine, isStar, isBlank, isInk, Inked, stopsAt, LineAt, lineText, feedsAfter, Written};
 use characters::Decoded;
 use characters::space;
@@ -200,7 +200,7 @@ pub fn line_at(part: &[u8], at: usize) -> Line
 
 // So many line feeds.
 fn put_feeds(texts: &mut [u8], at: usize, n: usize) -> usize
-    requires { ⌜ at + n ≤ 1152921504606846976 ⌝ }
+    requires { ⌜ at + n ≤ PLACES ⌝ }
     ensures { λ r. ⌜ Put (now (texts .entry)) (now (texts .exit)) at (replicate n 10) r ⌝ }
 {
     let mut place = at;
@@ -216,8 +216,8 @@ fn put_feeds(texts: &mut [u8], at: usize, n: usize) -> usize
 fn put_line(part: &[u8], l: Line, feeds: usize, texts: &mut [u8], at: usize) -> usize
     requires { ⌜ l .from ≤ l .to ⌝ }
     requires { ⌜ l .to ≤ length (now part) ⌝ }
-    requires { ⌜ length (now part) ≤ 1152921504606846976 ⌝ }
-    requires { ⌜ at + feeds ≤ 1152921504606846976 ⌝ }
+    requires { ⌜ length (now part) ≤ PLACES ⌝ }
+    requires { ⌜ at + feeds ≤ PLACES ⌝ }
     ensures { λ r. ⌜ Put (now (texts .entry)) (now (texts .exit)) at (lineText feeds (slice (l .from) (l .to) (now (part .entry)))) r ⌝ }
 {
     let from = l.from;
@@ -231,7 +231,7 @@ fn put_line(part: &[u8], l: Line, feeds: usize, texts: &mut [u8], at: usize) -> 
 
 // The line feeds that wait after a line.
 fn feeds_after(feeds: usize, l: Line) -> usize
-    requires { ⌜ feeds ≤ 1152921504606846976 ⌝ }
+    requires { ⌜ feeds ≤ PLACES ⌝ }
     ensures { λ r. ⌜ r ≡ feedsAfter feeds (l .from is l .to) ⌝ }
 {
     if l.from != l.to {
@@ -245,7 +245,7 @@ fn feeds_after(feeds: usize, l: Line) -> usize
 
 // The text of a comment of three slashes: the part trimmed. The result is the place after it.
 pub fn trim_text(part: &[u8], texts: &mut [u8], at: usize) -> usize
-    requires { ⌜ at + length (now part) ≤ 1152921504606846976 ⌝ }
+    requires { ⌜ at + length (now part) ≤ PLACES ⌝ }
     ensures { λ r. ⌜ Written (now (part .entry)) (now (texts .entry)) (now (texts .exit)) at (trim (charsOf (now (part .entry)))) r ⌝ }
 {
     let start = past_blanks(part, 0, false);
@@ -257,7 +257,7 @@ pub fn trim_text(part: &[u8], texts: &mut [u8], at: usize) -> usize
 
 // The text of a block: the part cleaned. The result is the place after it.
 pub fn clean_doc(part: &[u8], texts: &mut [u8], at: usize) -> usize
-    requires { ⌜ at + length (now part) ≤ 1152921504606846976 ⌝ }
+    requires { ⌜ at + length (now part) ≤ PLACES ⌝ }
     ensures { λ r. ⌜ Written (now (part .entry)) (now (texts .entry)) (now (texts .exit)) at (cleanDoc (charsOf (now (part .entry)))) r ⌝ }
 {
     let mut place = 0;

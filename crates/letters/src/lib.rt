@@ -9,6 +9,7 @@ ghost use Rattle.bridge.specs.Bridge.{Within, Reach, exactly};
 ghost use Rattle.strings.specs.Units.{UnitAt};
 ghost use Rattle.strings.specs.Runs.{Room};
 ghost use Rattle.letters.specs.Letters.{escapeLetter, LetterAt, ClosedAt, CharacterAt};
+ghost use Rattle.output.specs.Writing.{PLACES};
 use bridge::Ahead;
 use spans::Position;
 use strings::Made;
@@ -80,7 +81,7 @@ fn close(
     used_errors: usize,
 ) -> walks::Made
     requires { ⌜ Within (now text) p ⌝ }
-    requires { ⌜ «used_errors» ≤ 1152921504606846976 ⌝ }
+    requires { ⌜ «used_errors» ≤ PLACES ⌝ }
     ensures { λ r. ⌜ ClosedAt (now (text .entry)) p «used_texts» (now (errors .entry)) (now (errors .exit)) «used_errors» r ⌝ }
 {
     let closed = bridge::is_at(text, p.offset, 39);

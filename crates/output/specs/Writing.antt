@@ -8,6 +8,11 @@ use Prim.Native.Nat.{ℕ, _+_, _-_, _≤_}
 use lib.ListN.{length}
 use lib.Seq.{sets}
 
+-- The places up to which a write is asked for: far behind the end of every buffer, and so far below 2^64 that a place and the length of
+-- what is written there have a sum.
+abbrev pub PLACES : ℕ
+PLACES = 1152921504606846976
+
 -- The buffer `old` became `new`: the bytes stand from `at` on, all else keeps, and `r` is the place after them.
 pub record Put (old new : List ℕ) (at : ℕ) (bytes : List ℕ) (r : ℕ) : Type 0 where
   pub written : new ≡ sets old at bytes

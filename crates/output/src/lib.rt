@@ -6,7 +6,7 @@ ghost use lib.ListN.{length};
 ghost use lib.Seq.{slice, sets};
 ghost use Rattle.characters.specs.Utf8.{encodeChar};
 ghost use Rattle.records.specs.Records.{tokenRecord, errorRecord};
-ghost use Rattle.output.specs.Writing.{Put, Fitting};
+ghost use Rattle.output.specs.Writing.{Put, Fitting, PLACES};
 use characters::encoding;
 use records::kinds;
 use records::write;
@@ -14,7 +14,7 @@ use spans::Span;
 
 // One byte.
 pub fn put_byte(buf: &mut [u8], at: usize, b: u8) -> usize
-    requires { ⌜ at ≤ 1152921504606846976 ⌝ }
+    requires { ⌜ at ≤ PLACES ⌝ }
     ensures { λ r. ⌜ Put (now (buf .entry)) (now (buf .exit)) at (b ∷ []) r ⌝ }
 {
     if at < buf.len() {
@@ -57,8 +57,8 @@ fn copy(src: &[u8], from: usize, to: usize, buf: &mut [u8], at: usize)
 pub fn put_part(src: &[u8], from: usize, to: usize, buf: &mut [u8], at: usize) -> usize
     requires { ⌜ from ≤ to ⌝ }
     requires { ⌜ to ≤ length (now src) ⌝ }
-    requires { ⌜ to ≤ 1152921504606846976 ⌝ }
-    requires { ⌜ at ≤ 1152921504606846976 ⌝ }
+    requires { ⌜ to ≤ PLACES ⌝ }
+    requires { ⌜ at ≤ PLACES ⌝ }
     ensures { λ r. ⌜ Put (now (buf .entry)) (now (buf .exit)) at (slice from to (now (src .entry))) r ⌝ }
 {
     let n = fitting(buf.len(), at, to - from);
@@ -69,7 +69,7 @@ pub fn put_part(src: &[u8], from: usize, to: usize, buf: &mut [u8], at: usize) -
 // A character as UTF-8.
 pub fn put_char(c: u32, buf: &mut [u8], at: usize) -> usize
     requires { ⌜ c ≤ 0x10FFFF ⌝ }
-    requires { ⌜ at ≤ 1152921504606846976 ⌝ }
+    requires { ⌜ at ≤ PLACES ⌝ }
     ensures { λ r. ⌜ Put (now (buf .entry)) (now (buf .exit)) at (encodeChar c) r ⌝ }
 {
     let n = encoding::width_of(c);
@@ -93,7 +93,7 @@ pub fn put_token(
     offset: usize,
     len: usize,
 ) -> usize
-    requires { ⌜ at ≤ 1152921504606846976 ⌝ }
+    requires { ⌜ at ≤ PLACES ⌝ }
     ensures { λ r. ⌜ Put (now (buf .entry)) (now (buf .exit)) at (tokenRecord kind span offset len) r ⌝ }
 {
     let n = kinds::record_length(kind);
@@ -110,7 +110,7 @@ pub fn put_token(
 
 // An error's record.
 pub fn put_error(buf: &mut [u8], at: usize, kind: u8, span: Span, code: u32) -> usize
-    requires { ⌜ at ≤ 1152921504606846976 ⌝ }
+    requires { ⌜ at ≤ PLACES ⌝ }
     ensures { λ r. ⌜ Put (now (buf .entry)) (now (buf .exit)) at (errorRecord kind span code) r ⌝ }
 {
     let n = kinds::error_length(kind);

@@ -6,7 +6,8 @@ use Prim.Native.Nat.{ℕ}
 use Rattle.characters.specs.Choice.{if_then_else_, _is_}
 use Rattle.rules.specs.Text.{Char, Text, ch, text, sameText}
 
--- The kinds of tokens that the rules name.
+-- The kinds of tokens that the rules and the records name. (`Unit` of token.rs has another name here, since the library has one of
+-- its own.)
 abbrev pub IntLiteral : ℕ
 IntLiteral = 0
 
@@ -22,11 +23,29 @@ CharLiteral = 3
 abbrev pub Ident : ℕ
 Ident = 5
 
-abbrev pub StringInterpStart : ℕ
-StringInterpStart = 121
+abbrev pub UnitKeyword : ℕ
+UnitKeyword = 39
+
+abbrev pub LtLt : ℕ
+LtLt = 94
+
+abbrev pub GtGt : ℕ
+GtGt = 95
+
+abbrev pub GtGtGt : ℕ
+GtGtGt = 96
 
 abbrev pub DoubleColonT : ℕ
 DoubleColonT = 114
+
+abbrev pub DoubleDotOp : ℕ
+DoubleDotOp = 116
+
+abbrev pub TripleDotOp : ℕ
+TripleDotOp = 117
+
+abbrev pub StringInterpStart : ℕ
+StringInterpStart = 121
 
 abbrev pub DocComment : ℕ
 DocComment = 123
@@ -130,7 +149,7 @@ MARKS =
 -- Where a third mark equal to the second makes another token (lines 1060 to 1075, 1094 to 1109, 1187 to 1201): the kind of the two,
 -- and the kind of the three.
 unfoldable pub THIRDS : List (ℕ × ℕ)
-THIRDS = (94, 125) ∷ (95, 96) ∷ (116, 117) ∷ []
+THIRDS = (LtLt, Error) ∷ (GtGt, GtGtGt) ∷ (DoubleDotOp, TripleDotOp) ∷ []
 
 -- An escape's letter, and the character that it stands for (lines 650 to 662 and 788 to 800). `\u` is apart.
 unfoldable pub ESCAPES : List (Char × Char)

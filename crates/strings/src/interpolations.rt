@@ -5,7 +5,7 @@ ghost use Prim.Native.Nat.{_≤_};
 ghost use Rattle.characters.specs.Utf8.{charsAt};
 ghost use Rattle.rules.specs.Scan.{next};
 ghost use Rattle.bridge.specs.Bridge.{Within, exactly};
-ghost use Rattle.output.specs.Writing.{Put};
+ghost use Rattle.output.specs.Writing.{Put, PLACES};
 ghost use Rattle.strings.specs.Interpolations.{PastAt, missing, InterpolationAt};
 use super::Given;
 use cursor::Cursor;
@@ -41,7 +41,7 @@ fn past_interpolation(text: &[u8], p: Position) -> Closing
 
 // Writes the brace that is missing where the text ran out.
 fn put_brace(found: bool, texts: &mut [u8], at: usize) -> usize
-    requires { ⌜ at ≤ 1152921504606846976 ⌝ }
+    requires { ⌜ at ≤ PLACES ⌝ }
     ensures { λ r. ⌜ Put (now (texts .entry)) (now (texts .exit)) at (missing found) r ⌝ }
 {
     if found {
@@ -64,7 +64,7 @@ pub fn interpolation(
     requires { ⌜ Within (now text) p ⌝ }
     requires { ⌜ next (exactly 36) (charsAt (now text) (p .offset)) ≡ true ⌝ }
     requires { ⌜ «used_texts» ≤ 1099511627776 ⌝ }
-    requires { ⌜ «used_errors» ≤ 1152921504606846976 ⌝ }
+    requires { ⌜ «used_errors» ≤ PLACES ⌝ }
     ensures { λ r. ⌜ InterpolationAt (now (text .entry)) p start (now (texts .entry)) (now (texts .exit)) «used_texts» (now (errors .entry)) (now (errors .exit)) «used_errors» r ⌝ }
 {
     let c = past_interpolation(text, p);

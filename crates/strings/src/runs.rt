@@ -3,7 +3,7 @@ ghost use Prim.Native.Nat.{_≤_};
 ghost use lib.ListN.{length};
 ghost use Rattle.records.specs.Records.{errorRecord};
 ghost use Rattle.bridge.specs.Bridge.{Within, Fits};
-ghost use Rattle.output.specs.Writing.{Put};
+ghost use Rattle.output.specs.Writing.{Put, PLACES};
 ghost use Rattle.records.specs.Layout.{errorBytes};
 ghost use Rattle.strings.specs.Units.{madeBytes, IsChar, spanBehind, mistakes};
 ghost use Rattle.strings.specs.Runs.{Room, Wrote, RunAt};
@@ -30,7 +30,7 @@ pub fn put_made(
     requires { ⌜ to ≤ length (now text) ⌝ }
     requires { ⌜ to ≤ 1048576 ⌝ }
     requires { ⌜ IsChar made ⌝ }
-    requires { ⌜ at ≤ 1152921504606846976 ⌝ }
+    requires { ⌜ at ≤ PLACES ⌝ }
     ensures { λ r. ⌜ Put (now (texts .entry)) (now (texts .exit)) at (madeBytes (now (text .entry)) from to made) r ⌝ }
 {
     match made {
@@ -43,7 +43,7 @@ pub fn put_made(
 // Writes the error of this kind that stands behind the backslash at p.
 fn put_behind(p: Position, kind: u8, code: u32, errors: &mut [u8], at: usize) -> usize
     requires { ⌜ Fits p 1 ⌝ }
-    requires { ⌜ at ≤ 1152921504606846976 ⌝ }
+    requires { ⌜ at ≤ PLACES ⌝ }
     ensures { λ r. ⌜ Put (now (errors .entry)) (now (errors .exit)) at (errorRecord kind (spanBehind p) code) r ⌝ }
 {
     let q = bridge::along(p, 1);
@@ -54,7 +54,7 @@ fn put_behind(p: Position, kind: u8, code: u32, errors: &mut [u8], at: usize) ->
 // Writes the error of a unit at p.
 pub fn put_mistake(p: Position, mistake: Mistake, errors: &mut [u8], at: usize) -> usize
     requires { ⌜ Fits p 1 ⌝ }
-    requires { ⌜ at ≤ 1152921504606846976 ⌝ }
+    requires { ⌜ at ≤ PLACES ⌝ }
     ensures { λ r. ⌜ Put (now (errors .entry)) (now (errors .exit)) at (errorBytes (mistakes p mistake)) r ⌝ }
 {
     match mistake {

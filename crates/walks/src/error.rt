@@ -2,7 +2,7 @@
 ghost use mathlib.Core.Path.{_≡_};
 ghost use Prim.Native.Nat.{_≤_};
 ghost use Rattle.rules.specs.Lexer.{span};
-ghost use Rattle.output.specs.Writing.{Put};
+ghost use Rattle.output.specs.Writing.{Put, PLACES};
 ghost use Rattle.records.specs.Layout.{errorBytes};
 ghost use Rattle.walks.specs.Errors.{unclosed};
 use spans::Position;
@@ -26,7 +26,7 @@ pub fn put_unclosed(
     p: Position,
     q: Position,
 ) -> usize
-    requires { ⌜ at ≤ 1152921504606846976 ⌝ }
+    requires { ⌜ at ≤ PLACES ⌝ }
     ensures { λ r. ⌜ Put (now (errors .entry)) (now (errors .exit)) at (errorBytes (unclosed closed kind p q)) r ⌝ }
 {
     if closed {

@@ -7,6 +7,7 @@ ghost use Rattle.rules.specs.Scan.{run};
 ghost use Rattle.rules.specs.Lexer as rules;
 ghost use Rattle.bridge.specs.Bridge.{Within, Cut, exactly};
 ghost use Rattle.walks.specs.Skips.{opensLine, opensBlock, SomeWhite, WhiteAt, CommentAt, SkippedAt};
+ghost use Rattle.output.specs.Writing.{PLACES};
 use super::Closing;
 use super::Comment;
 use super::Skipped;
@@ -149,7 +150,7 @@ fn comment_at(text: &[u8], p: Position) -> Comment
 // Past white space and comments. The error of a comment that is not closed is written.
 pub fn skip(text: &[u8], p: Position, errors: &mut [u8], used: usize) -> Skipped
     requires { ⌜ Within (now text) p ⌝ }
-    requires { ⌜ used ≤ 1152921504606846976 ⌝ }
+    requires { ⌜ used ≤ PLACES ⌝ }
     ensures { λ r. ⌜ SkippedAt (now (text .entry)) p (now (errors .entry)) (now (errors .exit)) used r ⌝ }
 {
     let mut at = p;

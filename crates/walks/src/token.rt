@@ -8,6 +8,7 @@ ghost use Rattle.bridge.specs.Bridge.{Within};
 ghost use Rattle.walks.specs.Walks.{quotes};
 ghost use Rattle.walks.specs.Skips.{opensDoc};
 ghost use Rattle.walks.specs.Tokens.{dollarBrace, slashes, beginsNothing, RawAt, BracesAt, DocLineAt, DocBlockAt, UnexpectedAt};
+ghost use Rattle.output.specs.Writing.{PLACES};
 use super::DocBlock;
 use super::DocLine;
 use super::Filled;
@@ -29,8 +30,8 @@ pub fn raw(
 ) -> Made
     requires { ⌜ Within (now text) p ⌝ }
     requires { ⌜ startsWith quotes (charsAt (now text) (p .offset)) ≡ true ⌝ }
-    requires { ⌜ «used_texts» ≤ 1152921504606846976 ⌝ }
-    requires { ⌜ «used_errors» ≤ 1152921504606846976 ⌝ }
+    requires { ⌜ «used_texts» ≤ PLACES ⌝ }
+    requires { ⌜ «used_errors» ≤ PLACES ⌝ }
     ensures { λ r. ⌜ RawAt (now (text .entry)) p (now (texts .entry)) (now (texts .exit)) «used_texts»
         (now (errors .entry)) (now (errors .exit)) «used_errors» r ⌝ }
 {
@@ -55,7 +56,7 @@ pub fn raw(
 pub fn braces(text: &[u8], p: Position, texts: &mut [u8], used: usize) -> Filled
     requires { ⌜ Within (now text) p ⌝ }
     requires { ⌜ startsWith dollarBrace (charsAt (now text) (p .offset)) ≡ true ⌝ }
-    requires { ⌜ used ≤ 1152921504606846976 ⌝ }
+    requires { ⌜ used ≤ PLACES ⌝ }
     ensures { λ r. ⌜ BracesAt (now (text .entry)) p (now (texts .entry)) (now (texts .exit)) used r ⌝ }
 {
     let c = walk::to_byte(text, bridge::along(p, 2), 125);
@@ -89,7 +90,7 @@ pub fn doc_line(text: &[u8], p: Position) -> DocLine
 pub fn doc_block(text: &[u8], p: Position, errors: &mut [u8], used: usize) -> DocBlock
     requires { ⌜ Within (now text) p ⌝ }
     requires { ⌜ opensDoc (charsAt (now text) (p .offset)) ≡ true ⌝ }
-    requires { ⌜ used ≤ 1152921504606846976 ⌝ }
+    requires { ⌜ used ≤ PLACES ⌝ }
     ensures { λ r. ⌜ DocBlockAt (now (text .entry)) p (now (errors .entry)) (now (errors .exit)) used r ⌝ }
 {
     let inner = bridge::along(p, 3);
@@ -111,7 +112,7 @@ pub fn doc_block(text: &[u8], p: Position, errors: &mut [u8], used: usize) -> Do
 pub fn unexpected(text: &[u8], p: Position, errors: &mut [u8], used: usize) -> Recorded
     requires { ⌜ Within (now text) p ⌝ }
     requires { ⌜ next beginsNothing (charsAt (now text) (p .offset)) ≡ true ⌝ }
-    requires { ⌜ used ≤ 1152921504606846976 ⌝ }
+    requires { ⌜ used ≤ PLACES ⌝ }
     ensures { λ r. ⌜ UnexpectedAt (now (text .entry)) p (now (errors .entry)) (now (errors .exit)) used r ⌝ }
 {
     let Ahead::Char(c, q) = bridge::look(text, p) else {
