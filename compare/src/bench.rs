@@ -1,9 +1,11 @@
 //! The speed of the original and of the proved lexer, in one run on the same inputs. Speed is told, never tested.
+use crate::check::{self, largest};
 use crate::host;
 use crate::imports;
 use crate::lexer::Lexer;
+use crate::mixed;
 use crate::runs;
-use crate::scripts;
+use crate::scripts::{self, Make};
 use std::fs;
 use std::hint::black_box;
 use std::path::Path;
@@ -16,8 +18,35 @@ const LEAST_TIMINGS: u32 = 3;
 /// One timing repeats the work until it takes about so long.
 const TIMING: f64 = 0.005;
 /// A row ends after so long, once it has the least number of timings.
-const ROW: Duration = Duration::from_millis(900);
-const PASSES: u32 = 5;
+const ROW: Duration = Duration::from_secs(2);
+
+/// A kind of scripts: what makes one from a seed and a size, and how many different ones of each size are timed together, one after
+/// the other, so that a processor does not learn them by heart.
+struct Kind {
+    name: &'static str,
+    script: Make,
+    different: [u64; 3],
+}
+
+const KINDS: [Kind; 2] = [
+    Kind { name: "import", script: imports::script, different: [1, 1, 1] },
+    Kind { name: "mixed", script: mixed::script, different: [64, 16, 4] },
+];
+
+impl Kind {
+    /// The scripts of each size, and the name of their row.
+    fn rows(&self) -> impl Iterator<Item = (String, Vec<String>)> + '_ {
+        REALISTIC.iter().zip(self.different).map(|((size_name, size), different)| {
+            let scripts = (SEED..SEED + different).map(|seed| (self.script)(seed, *size)).collect();
+            (format!("{} scripts, {different} of {size_name}", self.name), scripts)
+        })
+    }
+}
+
+/// The bytes of all scripts.
+fn total(scripts: &[String]) -> usize {
+    scripts.iter().map(String::len).sum()
+}
 
 /// Does the work so many times and answers the seconds of all.
 type Work<'a> = &'a mut dyn FnMut(u32) -> f64;
@@ -57,10 +86,10 @@ fn timed<T>(runs: u32, mut work: impl FnMut() -> T) -> f64 {
     start.elapsed().as_secs_f64()
 }
 
-/// The original; its answer is dropped outside the timing.
-fn original(source: &str, runs: u32) -> f64 {
+/// The original over scripts; its answers are dropped outside the timing.
+fn original(scripts: &[String], runs: u32) -> f64 {
     let mut spent = Duration::ZERO;
-    for _ in 0..runs {
+    for source in (0..runs).flat_map(|_| scripts) {
         let start = Instant::now();
         let mut lexer = Lexer::new(black_box(source));
         let tokens = black_box(lexer.tokenize());
@@ -72,10 +101,6 @@ fn original(source: &str, runs: u32) -> f64 {
 
 /// The buffers, allocated once and never cleared.
 struct Buffers([Vec<u8>; 3]);
-
-fn largest(n: usize) -> [usize; 3] {
-    [33 * (n + 1), 2 * n + 2, 29 * n]
-}
 
 /// The bytes that a script uses of each buffer.
 fn fitting(script: &[u8]) -> [usize; 3] {
@@ -94,12 +119,17 @@ impl Buffers {
         host::tokenize(black_box(script), &mut tokens[..a], &mut texts[..b], &mut errors[..c]).expect("the buffers are large enough")
     }
 
-    fn time(&mut self, script: &[u8], sizes: [usize; 3], runs: u32) -> f64 {
-        timed(runs, || self.tokenize(script, sizes))
+    /// The seconds over scripts, each with its sizes of the buffers.
+    fn time(&mut self, scripts: &[String], sizes: &[[usize; 3]], runs: u32) -> f64 {
+        timed(runs, || {
+            for (script, sizes) in scripts.iter().zip(sizes) {
+                black_box(self.tokenize(script.as_bytes(), *sizes));
+            }
+        })
     }
 }
 
-/// The seconds of one run over an input.
+/// The seconds of one run over an input: a script, or several one after the other.
 struct Row {
     name: String,
     bytes: usize,
@@ -139,26 +169,28 @@ impl Row {
     }
 }
 
-fn row(name: String, script: &str, buffers: &mut Buffers) -> Row {
-    let bytes = script.as_bytes();
-    let exact = fitting(bytes);
-    let most = largest(bytes.len());
-    let count = buffers.tokenize(bytes, most).count;
-    assert_eq!(count, Lexer::new(script).tokenize().len(), "both find as many tokens");
+/// Times scripts, one after the other, as one row.
+fn row(name: String, scripts: &[String], buffers: &mut Buffers) -> Row {
+    let exact: Vec<[usize; 3]> = scripts.iter().map(|script| fitting(script.as_bytes())).collect();
+    let most: Vec<[usize; 3]> = scripts.iter().map(|script| largest(script.len())).collect();
+    for (script, sizes) in scripts.iter().zip(&most) {
+        let count = buffers.tokenize(script.as_bytes(), *sizes).count;
+        assert_eq!(count, Lexer::new(script).tokenize().len(), "both find as many tokens");
+    }
     let cell = std::cell::RefCell::new(buffers);
     let [original, largest, fitting] = best([
-        &mut |runs| original(script, runs),
-        &mut |runs| cell.borrow_mut().time(bytes, most, runs),
-        &mut |runs| cell.borrow_mut().time(bytes, exact, runs),
+        &mut |runs| original(scripts, runs),
+        &mut |runs| cell.borrow_mut().time(scripts, &most, runs),
+        &mut |runs| cell.borrow_mut().time(scripts, &exact, runs),
     ]);
-    let row = Row { name, bytes: bytes.len(), original, largest, fitting };
+    let row = Row { name, bytes: total(scripts), original, largest, fitting };
     row.print();
     row
 }
 
-fn realistic(buffers: &mut Buffers) -> Vec<Row> {
-    heading("realistic import scripts");
-    REALISTIC.iter().map(|(name, size)| row(format!("import script {name}"), &imports::script(SEED, *size), buffers)).collect()
+fn realistic(kind: &Kind, buffers: &mut Buffers) -> Vec<Row> {
+    heading(&format!("{} scripts", kind.name));
+    kind.rows().map(|(name, scripts)| row(name, &scripts, buffers)).collect()
 }
 
 /// A part that is repeated up to a size.
@@ -231,8 +263,8 @@ fn worst_cases(size: usize) -> Vec<(String, String)> {
     all.chain(long).collect()
 }
 
-fn one_string_of_interpolations(size: usize) -> String {
-    format!("\"{}\"", repeated("${a}", size - 2))
+fn one_string_of_interpolations(size: usize) -> [String; 1] {
+    [format!("\"{}\"", repeated("${a}", size - 2))]
 }
 
 /// The original takes from the front of a list for every token of a string, so that its time grows with the square of the size
@@ -242,9 +274,9 @@ fn quadratic(buffers: &mut Buffers) -> Vec<Row> {
     let sizes = [("1 kB", 1_000), ("4 kB", 4_000), ("16 kB", 16_000)];
     let rows = sizes.map(|(name, size)| row(format!("one string of interpolations {name}"), &one_string_of_interpolations(size), buffers));
     let script = one_string_of_interpolations(1_000_000);
-    let bytes = script.as_bytes();
-    let [seconds] = best([&mut |runs| buffers.time(bytes, largest(bytes.len()), runs)]);
-    println!("ours alone on 1 MB of it, largest: {:.1} MB/s, {:.2} ns/byte", speed(bytes.len(), seconds), nanoseconds(bytes.len(), seconds));
+    let n = total(&script);
+    let [seconds] = best([&mut |runs| buffers.time(&script, &[largest(n)], runs)]);
+    println!("ours alone on 1 MB of it, largest: {:.1} MB/s, {:.2} ns/byte", speed(n, seconds), nanoseconds(n, seconds));
     rows.into()
 }
 
@@ -253,7 +285,7 @@ fn worst(buffers: &mut Buffers) -> Vec<Row> {
     for (size_name, size) in &REALISTIC[1..] {
         heading(&format!("worst cases, {size_name}"));
         for (name, script) in worst_cases(*size) {
-            rows.push(row(format!("{name} {size_name}"), &scripts::cut(script, *size), buffers));
+            rows.push(row(format!("{name} {size_name}"), &[scripts::cut(script, *size)], buffers));
         }
     }
     rows.extend(quadratic(buffers));
@@ -276,39 +308,24 @@ fn scripts_below(folder: &str) -> std::io::Result<Vec<String>> {
     Ok(scripts)
 }
 
-/// Every file as one script, the seconds summed; the least sum of several passes.
+/// Every file as one script, the seconds summed.
 fn archive(folder: &str, buffers: &mut Buffers) -> std::io::Result<Option<Row>> {
     let scripts = scripts_below(folder)?;
-    let bytes: usize = scripts.iter().map(String::len).sum();
-    if bytes == 0 {
+    if total(&scripts) == 0 {
         println!("archive: no script to time");
         return Ok(None);
     }
-    let sizes: Vec<[usize; 3]> = scripts.iter().map(|s| fitting(s.as_bytes())).collect();
-    let mut least = [f64::MAX; 3];
-    for _ in 0..PASSES {
-        let mut sums = [0.0; 3];
-        for (script, exact) in scripts.iter().zip(&sizes) {
-            sums[0] += original(script, 1);
-            sums[1] += buffers.time(script.as_bytes(), largest(script.len()), 1);
-            sums[2] += buffers.time(script.as_bytes(), *exact, 1);
-        }
-        least = std::array::from_fn(|i| f64::min(least[i], sums[i]));
-    }
-    let [original, largest, fitting] = least;
-    let row = Row { name: "archive".to_string(), bytes, original, largest, fitting };
-    heading(&format!("archive folder, best of {PASSES} passes"));
-    row.print();
-    Ok(Some(row))
+    heading("archive folder");
+    Ok(Some(row("archive".to_string(), &scripts, buffers)))
 }
 
 fn measure_alone() {
     println!("\n{:<38} {:>8} {:>10} {:>8}", "aura_measure alone", "bytes", "MB/s", "ns/byte");
-    for (name, size) in REALISTIC {
-        let script = imports::script(SEED, size);
-        let [seconds] = best([&mut |runs| timed(runs, || host::measure(black_box(script.as_bytes())))]);
-        let n = script.len();
-        println!("{:<38} {n:>8} {:>10.1} {:>8.2}", format!("import script {name}"), speed(n, seconds), nanoseconds(n, seconds));
+    for (name, scripts) in KINDS.iter().flat_map(Kind::rows) {
+        let measured = |script: &String| black_box(host::measure(black_box(script.as_bytes()))).is_ok();
+        let [seconds] = best([&mut |runs| timed(runs, || scripts.iter().all(measured))]);
+        let n = total(&scripts);
+        println!("{name:<38} {n:>8} {:>10.1} {:>8.2}", speed(n, seconds), nanoseconds(n, seconds));
     }
 }
 
@@ -341,8 +358,8 @@ fn mean(ratios: impl Iterator<Item = f64>) -> f64 {
 }
 
 /// Whether the time a byte stays level from 1 kB to 1 MB.
-fn growth(rows: &[Row]) {
-    println!("\nnanoseconds a byte at 1 kB, 32 kB and 1 MB of import scripts:");
+fn growth(kind: &Kind, rows: &[Row]) {
+    println!("\nnanoseconds a byte at 1 kB, 32 kB and 1 MB of {} scripts:", kind.name);
     for (buffers, of) in [("largest", (|r| r.largest) as fn(&Row) -> f64), ("exact", |r| r.fitting)] {
         let each: Vec<f64> = rows.iter().map(|r| nanoseconds(r.bytes, of(r))).collect();
         let text: Vec<String> = each.iter().map(|n| format!("{n:.2}")).collect();
@@ -383,24 +400,31 @@ fn others(folder: Option<&str>, buffers: &mut Buffers) -> Option<Vec<Row>> {
     Some(rows)
 }
 
+/// How many times as fast as the original, over the sizes of a kind.
+fn ratios(kind: &Kind, rows: &[Row]) {
+    let most = mean(rows.iter().map(|r| r.original / r.largest));
+    let exact = mean(rows.iter().map(|r| r.original / r.fitting));
+    println!("ratio, {} scripts: {most:.2} largest, {exact:.2} exactly fitting", kind.name);
+}
+
 /// `short` times the realistic scripts only.
 pub fn run(short: bool, folder: Option<&str>) -> bool {
     println!("best of up to {TIMINGS} timings of about {} ms or more, both sides in turn; MB/s are 1,000,000 bytes a second", TIMING * 1e3);
     println!("original: Lexer::new and tokenize with what they allocate; dropping the answer is left out");
     println!("ours: aura_tokenize over buffers allocated before; the buffers were not cleared first");
     println!("largest: buffers of 33 (n + 1), 2n + 2 and 29n bytes; exact: buffers of the bytes used");
-    let mut buffers = Buffers::new(crate::check::LIMIT);
-    let mut rows = realistic(&mut buffers);
-    let scripts = rows.len();
+    println!("import scripts: made from templates; mixed scripts: tokens drawn at random, different scripts one after the other");
+    let mut buffers = Buffers::new(check::LIMIT);
+    let mut rows: Vec<Row> = KINDS.iter().flat_map(|kind| realistic(kind, &mut buffers)).collect();
     if !short {
         match others(folder, &mut buffers) {
             Some(more) => rows.extend(more),
             None => return false,
         }
     }
-    growth(&rows[..scripts]);
+    let kinds = || KINDS.iter().zip(rows.chunks(REALISTIC.len()));
+    kinds().for_each(|(kind, rows)| growth(kind, rows));
     slower(&rows);
-    println!("ratio {:.2} exactly fitting", mean(rows[..scripts].iter().map(|r| r.original / r.fitting)));
-    println!("ratio {:.2}", mean(rows[..scripts].iter().map(|r| r.original / r.largest)));
+    kinds().for_each(|(kind, rows)| ratios(kind, rows));
     true
 }

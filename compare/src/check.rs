@@ -7,6 +7,11 @@ use crate::lexed::Lexed;
 pub const LIMIT: usize = 1_048_576;
 const GUARD: u8 = 0xA5;
 
+/// The bytes of buffers that are never too small for a script of `n` bytes: of tokens, texts and errors.
+pub fn largest(n: usize) -> [usize; 3] {
+    [33 * (n + 1), 2 * n + 2, 29 * n]
+}
+
 /// A buffer with guard bytes behind the part that is lent.
 struct Lent {
     bytes: Vec<u8>,
@@ -69,9 +74,8 @@ pub fn lex(script: &[u8]) -> Result<(Lexed, Used), String> {
     if lexed.tokens.len() != used.count {
         return Err(format!("{} tokens, counted {}", lexed.tokens.len(), used.count));
     }
-    let n = script.len();
-    let largest = run(script, [33 * (n + 1), 2 * n + 2, 29 * n]);
-    if largest.lists(script, used)? != lexed {
+    let most = run(script, largest(script.len()));
+    if most.lists(script, used)? != lexed {
         return Err("another answer with the largest buffers".to_string());
     }
     for (number, size, short) in [

@@ -1,5 +1,5 @@
 //! Import scripts for a cemetery map as a person would write them: seeded, and closed at their end.
-use crate::scripts::Numbers;
+use crate::scripts::{self, Numbers};
 
 const FAMILIES: [&str; 16] = [
     "Smith", "Miller", "Taylor", "O'Brien", "Nowak", "Dubois", "Svensson", "Fletcher", "Harris", "Whitlock", "Abbott", "Carver", "Müller",
@@ -147,15 +147,6 @@ fn part(n: &mut Numbers) -> String {
 /// A script of at most so many bytes: whole parts, so that it ends at a line's end with nothing left open.
 pub fn script(seed: u64, size: usize) -> String {
     let mut numbers = Numbers::new(seed);
-    let mut script = header(&mut numbers);
-    let mut left_out = 0;
-    while left_out < 40 {
-        let next = part(&mut numbers);
-        if script.len() + next.len() <= size {
-            script += &next;
-        } else {
-            left_out += 1;
-        }
-    }
-    script
+    let start = header(&mut numbers);
+    scripts::filled(start, size, |_| part(&mut numbers))
 }

@@ -18,6 +18,8 @@ mod kinds;
 #[cfg(oracle)]
 mod listing;
 #[cfg(oracle)]
+mod mixed;
+#[cfg(oracle)]
 mod oracle;
 #[cfg(oracle)]
 mod readers;
@@ -43,7 +45,7 @@ with the original lexer's sources (AURA_SRC names their folder when building):
   kinds                    the names and spellings of the token kinds
   listing FILE             the original's listing of a script, as the program `tokens` writes it
   store FILE               writes the stored answers
-  bench [DIR | --short]    the speed of both lexers, over a folder too; --short: import scripts only";
+  bench [DIR | --short]    the speed of both lexers, over a folder too; --short: import and mixed scripts only";
 
 #[cfg(oracle)]
 fn against_the_original(words: &[&str]) -> Option<bool> {

@@ -84,3 +84,20 @@ pub fn cut(mut script: String, size: usize) -> String {
     script.truncate(at);
     script
 }
+
+/// What makes a script from a seed and a size.
+pub type Make = fn(u64, usize) -> String;
+
+/// A script of at most so many bytes: parts are added while they fit. `next` makes a part from what stands before it.
+pub fn filled(mut script: String, size: usize, mut next: impl FnMut(&str) -> String) -> String {
+    let mut left_out = 0;
+    while left_out < 40 {
+        let part = next(&script);
+        if script.len() + part.len() <= size {
+            script += &part;
+        } else {
+            left_out += 1;
+        }
+    }
+    script
+}
