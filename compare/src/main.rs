@@ -1,10 +1,13 @@
 //! Compares the proved lexer with the original in Rust and with Rust's standard library.
 mod characters;
 mod check;
+mod count;
 mod decode;
 mod host;
+mod imports;
 mod lexed;
 mod list;
+mod mixed;
 mod records;
 mod replay;
 mod scripts;
@@ -12,13 +15,9 @@ mod scripts;
 #[cfg(oracle)]
 mod bench;
 #[cfg(oracle)]
-mod imports;
-#[cfg(oracle)]
 mod kinds;
 #[cfg(oracle)]
 mod listing;
-#[cfg(oracle)]
-mod mixed;
 #[cfg(oracle)]
 mod oracle;
 #[cfg(oracle)]
@@ -34,6 +33,7 @@ const USAGE: &str = "usage: compare COMMAND
   characters               characters against Rust's standard library
   replay                   the stored answers of the original lexer
   records                  the readers over good, cut and damaged buffers
+  count                    instructions and mispredicted branches a token, counted by valgrind
 with the original lexer's sources (AURA_SRC names their folder when building):
   table                    document 01's small scripts and corner cases
   archive DIR              every file below a folder
@@ -85,6 +85,8 @@ fn main() -> ExitCode {
         ["characters"] => Some(characters::run()),
         ["replay"] => Some(replay::run()),
         ["records"] => Some(records::run()),
+        ["count"] => return count::run(),
+        ["count", "--once", kind] => count::once(kind),
         _ => against_the_original(&words),
     };
     match passed {
