@@ -1,17 +1,12 @@
-// The calls of a C-style host, on numbers and byte slices.
+// The calls of a C-style host, on numbers and byte slices. Each is a function of a crate below, exported with its contract.
 ghost use mathlib.Core.Path.{_≡_};
 ghost use lib.ListN.{length};
 ghost use Rattle.characters.specs.Utf8.{firstBad};
 ghost use Rattle.characters.specs.Space.{isWhite};
-ghost use Rattle.characters.specs.Mark.{markLength};
-ghost use Rattle.characters.specs.Encoding.{encodedAt, bufferAfter};
-ghost use Rattle.aura_host.specs.Characters.{checkNumber, checkFigure, truth, written};
-use characters::Checked;
-use characters::Encoded;
-use characters::encoding;
-use characters::mark;
-use characters::space;
-use characters::utf8;
+ghost use Rattle.byte_order_mark.specs.Mark.{markLength};
+ghost use Rattle.encoding.specs.Encoding.{encodedAt, bufferAfter};
+ghost use Rattle.host_answers.specs.Answers.{truth};
+ghost use Rattle.host_characters.specs.Characters.{checkNumber, checkFigure, written};
 
 pub mod calls; // calls.rt: measuring and tokenising
 pub mod reading; // reading.rt: the next token, the next error, the text check
@@ -23,11 +18,7 @@ pub extern "C" fn aura_first_bad(text: &[u8], place: &mut u64) -> u64
     ensures { λ r. ⌜ r ≡ checkNumber (now (text .entry)) (firstBad (now (text .entry))) ⌝ }
     ensures { λ _. ⌜ now (place .exit) ≡ checkFigure (firstBad (now (text .entry))) (now (place .entry)) ⌝ }
 {
-    let Checked::BadAt(at) = utf8::first_bad(text) else {
-        return 0;
-    };
-    *place = at as u64;
-    utf8::bad_class(text, at)
+    host_characters::first_bad(text, place)
 }
 
 // The bytes of the byte-order mark that the text begins with: 3 or 0.
@@ -35,7 +26,7 @@ pub extern "C" fn aura_first_bad(text: &[u8], place: &mut u64) -> u64
 pub extern "C" fn aura_mark_length(text: &[u8]) -> u64
     ensures { λ r. ⌜ r ≡ markLength (now (text .entry)) ⌝ }
 {
-    mark::mark_length(text) as u64
+    host_characters::mark_length(text)
 }
 
 // 1 where the code point is white space, else 0.
@@ -43,7 +34,7 @@ pub extern "C" fn aura_mark_length(text: &[u8]) -> u64
 pub extern "C" fn aura_is_white(code: u32) -> u64
     ensures { λ r. ⌜ r ≡ truth (isWhite code) ⌝ }
 {
-    if space::is_white(code) { 1 } else { 0 }
+    host_characters::is_white(code)
 }
 
 // Writes a character at a place of the buffer: the bytes written, or 0 where the code point is no character or does not fit.
@@ -52,8 +43,5 @@ pub extern "C" fn aura_encode_char(code: u32, buffer: &mut [u8], at: usize) -> u
     ensures { λ r. ⌜ r ≡ written (encodedAt code at (length (now (buffer .entry)))) ⌝ }
     ensures { λ _. ⌜ now (buffer .exit) ≡ bufferAfter code at (now (buffer .entry)) ⌝ }
 {
-    let Encoded::Written(n) = encoding::encode_char(code, buffer, at) else {
-        return 0;
-    };
-    n as u64
+    host_characters::encode_char(code, buffer, at)
 }

@@ -1,71 +1,37 @@
 // Reading records back: the next token, the next error, the text check.
 ghost use mathlib.Core.Path.{_≡_};
-ghost use Rattle.records.specs.Reading.{nextAt, nextErrorAt};
-ghost use Rattle.records.specs.Texts.{textCheckAt};
-ghost use Rattle.aura_host.specs.Calls.{numberOf, slotsAfter, tokenValues, errorValues, checkAfter};
-use records::answers::Next;
-use records::answers::NextError;
-use records::answers::TextCheck;
+ghost use Rattle.record_reading.specs.Reading.{nextAt, nextErrorAt};
+ghost use Rattle.record_texts.specs.Texts.{textCheckAt};
+ghost use Rattle.host_answers.specs.Answers.{numberOf, slotsAfter};
+ghost use Rattle.host_reading.specs.Records.{tokenValues, errorValues, checkAfter};
+use host_reading::CHECK_SLOTS;
+use host_reading::ERROR_SLOTS;
+use host_reading::TOKEN_SLOTS;
 
 // The token record at a place of the token buffer.
 #[no_mangle]
-pub extern "C" fn aura_next_token(tokens: &[u8], place: usize, answer: &mut [u64; 10]) -> u64
+pub extern "C" fn aura_next_token(
+    tokens: &[u8],
+    place: usize,
+    answer: &mut [u64; TOKEN_SLOTS],
+) -> u64
     ensures { λ r. ⌜ r ≡ numberOf (nextAt (now (tokens .entry)) place .answer) ⌝ }
     ensures { λ _. ⌜ now (answer .exit) ≡ slotsAfter (tokenValues (nextAt (now (tokens .entry)) place .place)) (nextAt (now (tokens .entry)) place .answer) (now (answer .entry)) ⌝ }
 {
-    let n = records::read::next_token(tokens, place);
-    match n {
-        Next::Got(r, at) => {
-            let s = r.span;
-            *answer = [
-                at as u64,
-                r.kind as u64,
-                s.start as u64,
-                s.end as u64,
-                s.start_line as u64,
-                s.start_col as u64,
-                s.end_line as u64,
-                s.end_col as u64,
-                r.offset as u64,
-                r.length as u64,
-            ];
-            0
-        }
-        Next::Refused(x, _) => {
-            answer[0] = x.figure;
-            x.number
-        }
-    }
+    host_reading::next_token(tokens, place, answer)
 }
 
 // The error record at a place of the error buffer.
 #[no_mangle]
-pub extern "C" fn aura_next_error(errors: &[u8], place: usize, answer: &mut [u64; 9]) -> u64
+pub extern "C" fn aura_next_error(
+    errors: &[u8],
+    place: usize,
+    answer: &mut [u64; ERROR_SLOTS],
+) -> u64
     ensures { λ r. ⌜ r ≡ numberOf (nextErrorAt (now (errors .entry)) place .answer) ⌝ }
     ensures { λ _. ⌜ now (answer .exit) ≡ slotsAfter (errorValues (nextErrorAt (now (errors .entry)) place .place)) (nextErrorAt (now (errors .entry)) place .answer) (now (answer .entry)) ⌝ }
 {
-    let n = records::errors::next_error(errors, place);
-    match n {
-        NextError::Got(r, at) => {
-            let s = r.span;
-            *answer = [
-                at as u64,
-                r.kind as u64,
-                s.start as u64,
-                s.end as u64,
-                s.start_line as u64,
-                s.start_col as u64,
-                s.end_line as u64,
-                s.end_col as u64,
-                r.code as u64,
-            ];
-            0
-        }
-        NextError::Refused(x, _) => {
-            answer[0] = x.figure;
-            x.number
-        }
-    }
+    host_reading::next_error(errors, place, answer)
 }
 
 // Whether the text of the token record at a place lies inside its buffer.
@@ -75,17 +41,10 @@ pub extern "C" fn aura_text_check<'a>(
     texts: &'a [u8],
     tokens: &[u8],
     place: usize,
-    answer: &mut [u64; 1],
+    answer: &mut [u64; CHECK_SLOTS],
 ) -> u64
     ensures { λ r. ⌜ r ≡ numberOf (textCheckAt (now (script .entry)) (now (texts .entry)) (now (tokens .entry)) place) ⌝ }
     ensures { λ _. ⌜ now (answer .exit) ≡ checkAfter (textCheckAt (now (script .entry)) (now (texts .entry)) (now (tokens .entry)) place) (now (answer .entry)) ⌝ }
 {
-    let c = records::text::text_check(script, texts, tokens, place);
-    match c {
-        TextCheck::Inside => 0,
-        TextCheck::Refused(x) => {
-            answer[0] = x.figure;
-            x.number
-        }
-    }
+    host_reading::text_check(script, texts, tokens, place, answer)
 }

@@ -10,7 +10,7 @@ use native.Mathlib.Numerals.{add-one}
 use borrow.Author.Tests.{eqb-true, eq-eqb, ne-eqb}
 use Rattle.characters.specs.Choice.{_is_}
 use Rattle.characters.specs.Utf8.{decodeAt, charsAt, width, isValid}
-use Rattle.characters.specs.Check.{badFrom}
+use Rattle.characters.specs.Valid.{badFrom}
 use Rattle.characters.specs.declared.Decoded.the-variants.{Code}
 use Rattle.characters.proofs.Choice.{if-all}
 use Rattle.characters.proofs.Decoding.{placed-code, decode-ascii}

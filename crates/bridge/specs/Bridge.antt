@@ -3,14 +3,15 @@
 use mathlib.Core.Path.{_≡_}
 use mathlib.Core.Bool.{Bool, true, _&&_, not}
 use mathlib.Core.List.{List, [], _∷_, _++_}
-use Prim.Native.Nat.{ℕ, _+_, _≤_, _<_}
+use Prim.Native.Nat.{ℕ, _+_, _*_, _≤_, _<_}
 use lib.Dec.{leb}
 use lib.ListN.{length}
 use lib.Seq.{slice}
 use Rattle.characters.specs.Choice.{_is_}
 use Rattle.characters.specs.Utf8.{charsAt, isValid}
-use Rattle.characters.specs.Check.{badFrom}
+use Rattle.characters.specs.Valid.{badFrom}
 use Rattle.spans.specs.declared.Position.{Position}
+use Rattle.rules.specs.Script.{LIMIT}
 use Rattle.rules.specs.Text.{Char, Text}
 use Rattle.rules.specs.Scan.{Part, run}
 use Rattle.rules.specs.Lexer.{advances}
@@ -19,9 +20,9 @@ use Rattle.bridge.specs.declared.Ahead.the-variants as ahead
 
 -- ── Positions ──
 
--- A position in a text of at most 1,048,576 bytes, which makes every sum fit, and which is UTF-8 from the position on.
+-- A position in a text of at most LIMIT bytes, which makes every sum fit, and which is UTF-8 from the position on.
 pub record Within (s : List ℕ) (p : Position) : Type 0 where
-  pub size : length s ≤ 1048576
+  pub size : length s ≤ LIMIT
   pub inside : p .offset ≤ length s
   pub valid : isValid (badFrom s (p .offset)) ≡ true
   pub lines : p .line ≤ p .offset + 1
@@ -29,7 +30,7 @@ pub record Within (s : List ℕ) (p : Position) : Type 0 where
 
 -- There is room for `n` bytes more.
 pub record Fits (p : Position) (n : ℕ) : Type 0 where
-  pub places : p .offset + n ≤ 2097152
+  pub places : p .offset + n ≤ 2 * LIMIT
   pub lines : p .line ≤ p .offset + 1
   pub columns : p .col ≤ p .offset + 2
 
@@ -44,9 +45,13 @@ abbrev pub NextAt : List ℕ → Position → Ahead → Type 0
 NextAt s p (ahead.Char c q) = Reach s p (c ∷ []) q × (p .offset < q .offset)
 NextAt s p ahead.Nothing = charsAt s (p .offset) ≡ []
 
+-- The first character behind the line feed: from it on each moves along its line.
+abbrev pub BEHIND-LF : Char
+BEHIND-LF = 11
+
 -- A character that moves along its line and is none of three. (The control characters before the line feed are looked at one by one.)
 unfoldable pub isPlain : Char → Char → Char → Char → Bool
-isPlain x y z c = leb 11 c && not (c is x) && not (c is y) && not (c is z)
+isPlain x y z c = leb BEHIND-LF c && not (c is x) && not (c is y) && not (c is z)
 
 -- Three characters of one byte.
 pub record Stops (x y z : Char) : Type 0 where
@@ -81,7 +86,7 @@ Letter b = (1 ≤ b) × (b ≤ 0x7F)
 -- A text that is as many bytes as characters, and moves along its line.
 abbrev pub Flat : Text → Type 0
 Flat [] = Unit
-Flat (c ∷ cs) = (11 ≤ c) × (c ≤ 0x7F) × Flat cs
+Flat (c ∷ cs) = (BEHIND-LF ≤ c) × (c ≤ 0x7F) × Flat cs
 
 -- The part `a` of the rules, as the bytes from `at` to `to`: these are what it takes, and what it leaves begins at `to`.
 pub record Cut (s : List ℕ) (at : ℕ) (a : Part) (to : ℕ) : Type 0 where

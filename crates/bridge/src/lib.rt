@@ -7,6 +7,11 @@ ghost use Rattle.bridge.specs.Bridge.{Fits, Letter, exactly, onward, Wit
 use characters::Decoded;
 use spans::Position;
 
+const LINE_FEED: u32 = b'\n' as u32;
+
+// The first character behind the line feed: from it on each moves along its line.
+const BEHIND_LINE_FEED: u8 = b'\n' + 1;
+
 // What stands at a position: a character, and the position after it; or nothing.
 pub enum Ahead {
     Char(u32, Position),
@@ -39,7 +44,7 @@ pub fn past(p: Position, c: u32, n: usize) -> Position
     requires { ⌜ n ≡ width c ⌝ }
     ensures { λ r. ⌜ r ≡ advance p c ⌝ }
 {
-    if c == 10 {
+    if c == LINE_FEED {
         return Position {
             offset: p.offset + n,
             line: p.line + 1,
@@ -71,7 +76,7 @@ pub fn look(text: &[u8], p: Position) -> Ahead
 fn is_plain(x: u8, y: u8, z: u8, b: u8) -> bool
     ensures { λ r. ⌜ r ≡ isPlain x y z b ⌝ }
 {
-    (11 <= b) & !(b == x) & !(b == y) & !(b == z)
+    (BEHIND_LINE_FEED <= b) & !(b == x) & !(b == y) & !(b == z)
 }
 
 // The position after the plain characters at p. It goes byte by byte: each byte but a character's tails is a column.

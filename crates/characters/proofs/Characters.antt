@@ -8,7 +8,7 @@ use lib.Seq.{drop-nil, drop-drop}
 use native.Mathlib.Omega.{arith}
 use native.Mathlib.Nat.{add-zero}
 use Rattle.characters.specs.Utf8.{firstOf, decodeAt, after, charsPast, charsAt, charsOf, checkAfter, checkPast, firstBad}
-use Rattle.characters.specs.Check.{badFrom}
+use Rattle.characters.specs.Valid.{badFrom}
 use Rattle.characters.specs.declared.Decoded.the-variants.{Code, Bad, End}
 use Rattle.characters.specs.declared.Checked.the-variants.{Valid, BadAt}
 use Rattle.characters.proofs.Sequences.{decode-end}

@@ -4,9 +4,6 @@ pub mod Widths
 pub mod Buffers
 pub mod Decoding
 pub mod Characters
-pub mod Check
 pub mod Valids
 pub mod Spaces
-pub mod Rooms
-pub mod Marks
 pub mod Texts

@@ -8,7 +8,7 @@ use lib.ListN.{length, getD, drop, length-drop}
 use native.Mathlib.Omega.{arith}
 use Rattle.characters.specs.Choice.{if_then_else_}
 use Rattle.characters.specs.Utf8.{isTail, secondOk, codeTwo, codeThree, codeFour, twoOf, threeOf, fourOf, sequence, decodeAt, isValid}
-use Rattle.characters.specs.Check.{badFrom}
+use Rattle.characters.specs.Valid.{badFrom}
 use Rattle.characters.specs.declared.Decoded.{Decoded}
 use Rattle.characters.specs.declared.Decoded.the-variants.{Code, Bad, End}
 use Rattle.characters.proofs.Choice.{and-both, le-or-lt, within-below, within-above}

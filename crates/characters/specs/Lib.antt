@@ -1,6 +1,4 @@
 pub mod Choice
 pub mod Utf8
-pub mod Check
+pub mod Valid
 pub mod Space
-pub mod Mark
-pub mod Encoding

@@ -115,10 +115,13 @@ isValid (BadAt at) = false
 unfoldable pub isUtf8 : List ℕ → Bool
 isUtf8 s = isValid (firstBad s)
 
--- The class of the bad sequence that a text begins with, as the number of the refusal that it leads to (document 01,
--- question 2): there is one class.
+-- The refusal of a text that is not UTF-8 (document 01, question 2).
+abbrev pub RefusedUtf8 : ℕ
+RefusedUtf8 = 2
+
+-- The class of the bad sequence that a text begins with, as the number of the refusal that it leads to: there is one class.
 unfoldable pub badClass : List ℕ → ℕ
-badClass s = 2
+badClass s = RefusedUtf8
 
 -- ── Encoding (section 3) ──
 

@@ -18,8 +18,9 @@ use Rattle.rules.specs.Scan.{run}
 use Rattle.rules.specs.Docs.{cleanLine, cleanDoc}
 use Rattle.output.specs.Writing.{Put}
 use Rattle.output.proofs.Buffers.{put-length, put-none, put-then, Writing, write-start, write-more, write-end}
-use Rattle.docs.specs.Lines.{inLine, LineAt, lineText, feedsAfter, linesText, Written}
-use Rattle.docs.specs.declared.Line.{Line}
+use Rattle.doc_lines.specs.Lines.{inLine, LineAt}
+use Rattle.docs.specs.Texts.{lineText, feedsAfter, linesText, Written}
+use Rattle.doc_lines.specs.declared.Line.{Line}
 use Rattle.docs.proofs.Joining.{moreLines, lines-first, cleanLines, clean-text}
 
 -- ── The octets of a line ──

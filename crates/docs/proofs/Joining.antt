@@ -12,8 +12,9 @@ use Rattle.characters.specs.Space.{isWhite}
 use Rattle.rules.specs.Text.{Char, Text, LF, isEmpty}
 use Rattle.rules.specs.Scan.{next, takes, nothing, run}
 use Rattle.rules.specs.Docs.{trimStart, trimEnd, trim, addToFirst, lines, joinLines, cleanLine, cleanDoc}
-use Rattle.docs.specs.Lines.{inLine, lineText, feedsAfter, linesText}
-use Rattle.docs.proofs.Trimming.{end-append, end-behind, Tight, clean-tight}
+use Rattle.doc_lines.specs.Lines.{inLine}
+use Rattle.docs.specs.Texts.{lineText, feedsAfter, linesText}
+use Rattle.doc_lines.proofs.Trimming.{end-append, end-behind, Tight, clean-tight}
 
 -- ── The first line of a text ──
 
@@ -33,12 +34,6 @@ lines-first (c ∷ cs) = go (c is LF) (lines-first cs)
         ∷ moreLines ((if not b then takes c (run (inLine true) cs) else nothing (c ∷ cs)) .left)
     go true e = refl
     go false e = rw e
-
--- Where lines are not looked at apart, the first is the whole text.
-pub whole-line : (cs : Text) → run (inLine false) cs .taken ≡ cs
-unfolding run inLine
-whole-line [] = refl
-whole-line (c ∷ cs) = ap (λ (t : Text). c ∷ t) (whole-line cs)
 
 -- ── Line feeds ──
 

@@ -23,15 +23,15 @@ use Rattle.bridge.proofs.Bytes.{starts-one}
 use Rattle.bridge.proofs.Reaches.{reach-join, one-on, advance-flat}
 use Rattle.output.specs.Writing.{Put}
 use Rattle.output.proofs.Buffers.{put-none, put-then}
-use Rattle.walks.specs.declared.Made.{Made}
+use Rattle.multiline.specs.declared.Made.{Made}
 use Rattle.walks.specs.Errors.{unclosed}
 use Rattle.walks.specs.Segments.{segmentAt, errorsAt, OneToken}
 use Rattle.walks.proofs.Enclosed.{reach-offset}
 use Rattle.walks.proofs.Errors.{unclosed-size}
 use Rattle.walks.proofs.Whole.{one-token-whole}
-use Rattle.strings.specs.declared.Unit as code
-use Rattle.strings.specs.Units.{madeBytes, mistakes, UnitAt}
-use Rattle.strings.proofs.RunLaws.{mistakes-few}
+use Rattle.string_units.specs.declared.Unit as code
+use Rattle.string_units.specs.Units.{madeBytes, mistakes, UnitAt}
+use Rattle.string_runs.proofs.RunLaws.{mistakes-few}
 use Rattle.letters.specs.Letters.{letterOf, runsOut, closed, ClosedAt, CharacterAt}
 use Rattle.letters.proofs.CharLaws.{quote-parse, faultsOf, letter-parse, ran-out-parse, letter-errors, errors-then, end-error, close-yes, close-no}
 

@@ -20,11 +20,12 @@ use Rattle.cursor.specs.Strings.{Unit as StringUnit, plainUnit}
 use Rattle.bridge.specs.Bridge.{Within, Reach}
 use Rattle.bridge.proofs.Reaches.{reach-nil, reach-join}
 use Rattle.walks.proofs.Enclosed.{reach-offset}
-use Rattle.strings.specs.declared.Made.the-variants as made
-use Rattle.strings.specs.declared.Mistake.the-variants as mistake
-use Rattle.strings.specs.declared.Unit as code
-use Rattle.strings.specs.Units.{unicodeUnit, UnitAt}
-use Rattle.strings.proofs.UnitLaws.{char-unit, no-error, plain-unit, escape-small}
+use Rattle.string_units.specs.declared.Made.the-variants as made
+use Rattle.string_units.specs.declared.Mistake.the-variants as mistake
+use Rattle.string_units.specs.declared.Unit as code
+use Rattle.string_units.specs.Units.{unicodeUnit, UnitAt}
+use Rattle.escapes.proofs.Letters.{escape-small}
+use Rattle.string_units.proofs.UnitLaws.{char-unit, no-error, plain-unit}
 use Rattle.characters.proofs.Widths.{width-one}
 use Rattle.letters.specs.Letters.{escapeLetter, letterOf, runsOut}
 

@@ -14,11 +14,12 @@ use Rattle.rules.specs.Strings.{escape}
 use Rattle.cursor.specs.Strings.{Unit as StringUnit, plainUnit}
 use Rattle.bridge.specs.Bridge.{Reach, onward, exactly}
 use Rattle.output.specs.Writing.{Put}
-use Rattle.walks.specs.declared.Made.{Made}
+use Rattle.multiline.specs.declared.Made.{Made}
 use Rattle.records.specs.Layout.{errorBytes}
 use Rattle.walks.specs.Errors.{unclosed}
 use Rattle.walks.specs.Segments.{segmentAt, errorsAt, OneToken}
-use Rattle.strings.specs.Units.{UnitAt}
+use Rattle.string_units.specs.Units.{UnitAt}
+use Rattle.records.specs.Fields.{LONGEST-ERROR}
 use Rattle.letters.specs.declared.Letter.{Letter}
 use Rattle.letters.specs.declared.Letter.the-variants as letter
 
@@ -65,4 +66,4 @@ pub record CharacterAt (s : List ℕ) (p : Position) (texts texts′ : List ℕ)
   pub written : Put errors errors′ ue (errorBytes (errorsAt s p)) (r .errors)
   pub open-end : segmentAt s p .open-end ≡ r .«ran_out»
   pub small : r .texts ≤ ut + 3 * (r .at .offset - p .offset)
-  pub few : r .errors ≤ ue + 29 * (r .at .offset - p .offset)
+  pub few : r .errors ≤ ue + LONGEST-ERROR * (r .at .offset - p .offset)

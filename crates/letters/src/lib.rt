@@ -4,21 +4,22 @@ ghost use mathlib.Core.Bool.{true};
 ghost use mathlib.Core.List.{[], _∷_};
 ghost use Prim.Native.Nat.{_≤_};
 ghost use Rattle.characters.specs.Utf8.{charsAt};
+ghost use Rattle.rules.specs.Text.{ch};
 ghost use Rattle.rules.specs.Scan.{next};
 ghost use Rattle.bridge.specs.Bridge.{Within, Reach, exactly};
-ghost use Rattle.strings.specs.Units.{UnitAt};
-ghost use Rattle.strings.specs.Runs.{Room};
+ghost use Rattle.string_units.specs.Units.{UnitAt};
+ghost use Rattle.string_runs.specs.Runs.{Room};
 ghost use Rattle.letters.specs.Letters.{escapeLetter, LetterAt, ClosedAt, CharacterAt};
 ghost use Rattle.output.specs.Writing.{PLACES};
 use bridge::Ahead;
+use escapes::Value;
+use rules::error_kinds::UNTERMINATED_CHARACTER;
 use spans::Position;
-use strings::Made;
-use strings::Mistake;
-use strings::Unit;
-use strings::Value;
-use strings::escapes;
-use strings::runs;
-use strings::units;
+use string_units::BACKSLASH;
+use string_units::LETTER_U;
+use string_units::Made;
+use string_units::Mistake;
+use string_units::Unit;
 use walks::error;
 
 // What stands behind the opening quote: a character or an escape; or the text ran out, behind the quote or behind a backslash.
@@ -31,11 +32,11 @@ pub enum Letter {
 fn escape(text: &[u8], p: Position, e: u32, r: Position) -> Unit
     requires { ⌜ Within (now text) p ⌝ }
     requires { ⌜ e ≤ 0x10FFFF ⌝ }
-    requires { ⌜ Reach (now text) p (92 ∷ e ∷ []) r ⌝ }
+    requires { ⌜ Reach (now text) p (ch "\\" ∷ e ∷ []) r ⌝ }
     ensures { λ u. ⌜ UnitAt (now (text .entry)) p (escapeLetter e (charsAt (now (text .entry)) (r .offset))) u ⌝ }
 {
-    if e == 117 {
-        return units::unicode(text, p, r);
+    if e == LETTER_U {
+        return string_units::unicode(text, p, r);
     }
     let Value::Some(v) = escapes::escaped(e) else {
         return Unit {
@@ -59,7 +60,7 @@ fn letter_at(text: &[u8], p: Position) -> Letter
     let Ahead::Char(c, q) = bridge::look(text, p) else {
         return Letter::RanOut(p);
     };
-    if c == 92 {
+    if c == BACKSLASH {
         let Ahead::Char(e, r) = bridge::look(text, q) else {
             return Letter::RanOut(q);
         };
@@ -79,22 +80,22 @@ fn close(
     used_texts: usize,
     errors: &mut [u8],
     used_errors: usize,
-) -> walks::Made
+) -> multiline::Made
     requires { ⌜ Within (now text) p ⌝ }
     requires { ⌜ «used_errors» ≤ PLACES ⌝ }
     ensures { λ r. ⌜ ClosedAt (now (text .entry)) p «used_texts» (now (errors .entry)) (now (errors .exit)) «used_errors» r ⌝ }
 {
-    let closed = bridge::is_at(text, p.offset, 39);
-    let noted = error::put_unclosed(errors, used_errors, closed, 9, p, p);
+    let closed = bridge::is_at(text, p.offset, b'\'');
+    let noted = error::put_unclosed(errors, used_errors, closed, UNTERMINATED_CHARACTER, p, p);
     if closed {
-        return walks::Made {
+        return multiline::Made {
             at: bridge::along(p, 1),
             texts: used_texts,
             errors: noted,
             ran_out: false,
         };
     }
-    walks::Made {
+    multiline::Made {
         at: p,
         texts: used_texts,
         errors: noted,
@@ -110,9 +111,9 @@ pub fn character(
     used_texts: usize,
     errors: &mut [u8],
     used_errors: usize,
-) -> walks::Made
+) -> multiline::Made
     requires { ⌜ Within (now text) p ⌝ }
-    requires { ⌜ next (exactly 39) (charsAt (now text) (p .offset)) ≡ true ⌝ }
+    requires { ⌜ next (exactly (ch "'")) (charsAt (now text) (p .offset)) ≡ true ⌝ }
     requires { ⌜ Room «used_texts» «used_errors» ⌝ }
     ensures { λ r. ⌜ CharacterAt (now (text .entry)) p (now (texts .entry)) (now (texts .exit)) «used_texts» (now (errors .entry)) (now (errors .exit)) «used_errors» r ⌝ }
 {
@@ -123,13 +124,20 @@ pub fn character(
             let next = u.next;
             let makes = u.made;
             let mistake = u.mistake;
-            let made = runs::put_made(text, q.offset, next.offset, makes, texts, used_texts);
-            let noted = runs::put_mistake(q, mistake, errors, used_errors);
+            let made = string_runs::put_made(text, q.offset, next.offset, makes, texts, used_texts);
+            let noted = string_runs::put_mistake(q, mistake, errors, used_errors);
             close(text, next, made, errors, noted)
         }
         Letter::RanOut(end) => {
-            let noted = error::put_unclosed(errors, used_errors, false, 9, end, end);
-            walks::Made {
+            let noted = error::put_unclosed(
+                errors,
+                used_errors,
+                false,
+                UNTERMINATED_CHARACTER,
+                end,
+                end,
+            );
+            multiline::Made {
                 at: end,
                 texts: used_texts,
                 errors: noted,

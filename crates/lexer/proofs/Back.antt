@@ -7,27 +7,29 @@ use Prim.Native.Nat.{ℕ, _+_, _≤_, _<_, zero-le}
 use native.Mathlib.Omega.{arith}
 use lib.ListN.{length, take, drop}
 use lib.Seq.{take-append-seam}
-use Rattle.characters.specs.Mark.{hasMark}
+use Rattle.byte_order_mark.specs.Mark.{hasMark}
 use Rattle.rules.specs.Tokens.{TokenizeError}
 use Rattle.rules.specs.Script.{LIMIT, accepted, scriptTokens, scriptErrors}
 use Rattle.rules.specs.Shift.{Joins}
 use Rattle.rules.proofs.Demand as demand
 use Rattle.records.specs.Answers.{Answer, got, refused}
 use Rattle.records.specs.Layout.{textBytes, errorBytes}
-use Rattle.records.specs.Lists.{Small, tokensFrom, errorsFrom}
+use Rattle.record_lists.specs.Lists.{Small, tokensFrom, errorsFrom}
 use Rattle.records.proofs.Filling.{errorsSize, length-errors}
-use Rattle.records.proofs.Back.{tokens-back, errors-back}
+use Rattle.record_lists.proofs.Back.{tokens-back, errors-back}
 use Rattle.output.proofs.Lengths.{error-bounds}
-use Rattle.lexer.specs.declared.Used.{Used}
-use Rattle.lexer.specs.declared.Asked.{Asked}
-use Rattle.lexer.specs.declared.Asked.the-variants.{Yes, No}
+use Rattle.room.specs.declared.Used.{Used}
+use Rattle.room.specs.Needed.{needed}
+use Rattle.room.specs.Room.{mostTexts}
+use Rattle.room.proofs.Totals.{text-low, few-texts}
+use Rattle.questions.specs.declared.Asked.{Asked}
+use Rattle.questions.specs.declared.Asked.the-variants.{Yes, No}
+use Rattle.questions.specs.Questions.{askText, askRoom}
+use Rattle.questions.proofs.Questions.{yes-accepted}
 use Rattle.lexer.specs.declared.Answer as code
 use Rattle.lexer.specs.declared.Answer.the-variants.{Done, Refused}
-use Rattle.lexer.specs.Tokenize.{ofAnswer, needed, askText, askRoom, _then_, measureAnswer, tokenizeAnswer, bufferAfter, Tokenized}
-use Rattle.lexer.specs.Run.{mostTexts}
+use Rattle.lexer.specs.Tokenize.{ofAnswer, _then_, measureAnswer, tokenizeAnswer, bufferAfter, Tokenized}
 use Rattle.lexer.specs.Places.{placesFrom, Fills}
-use Rattle.lexer.proofs.Totals.{text-low, few-texts}
-use Rattle.lexer.proofs.Questions.{yes-accepted}
 use Rattle.lexer.proofs.Fits.{tokens-fit, tokens-ended, errors-fit}
 use Rattle.lexer.proofs.Places.{places-filled}
 

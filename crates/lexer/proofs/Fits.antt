@@ -12,7 +12,7 @@ use Rattle.characters.specs.Utf8.{encodeChar, encode}
 use Rattle.characters.proofs.Choice.{and-both, or-neither}
 use Rattle.rules.specs.Text.{sameText}
 use Rattle.rules.specs.Tokens.{Token, TokenizeError}
-use Rattle.rules.specs.Tables.{KEYWORDS, MARKS, THIRDS, lookup}
+use Rattle.rules.specs.Tables.{KEYWORDS, MARKS, THIRDS, lookup, EOF}
 use Rattle.rules.specs.Marks as marks
 use Rattle.rules.specs.Lexer.{lexed, eof}
 use Rattle.rules.specs.Script.{accepted, scriptText, asBytes, scriptTokens, scriptErrors}
@@ -22,9 +22,9 @@ use Rattle.rules.proofs.Faults.{namesCode}
 use Rattle.rules.proofs.Fits.{SpanLow, TokenLow, tokens-low, error-spans-low, ErrorKnown, script-errors-known, TokenSourced, scriptBody, body-and-eof, script-tokens-sourced}
 use Rattle.spans.specs.declared.Position.{Position}
 use Rattle.spans.specs.declared.Span.{Span}
-use Rattle.records.specs.Kinds.{EOF, hasText, isMade, hasCode}
-use Rattle.records.specs.Spelling.{spellings, spelling}
-use Rattle.records.specs.Lists.{SpanFits, TokenFits, Ended, ErrorFits, Each}
+use Rattle.records.specs.Kinds.{hasText, isMade, hasCode}
+use Rattle.spellings.specs.Spelling.{spellings, spelling}
+use Rattle.record_lists.specs.Lists.{SpanFits, TokenFits, Ended, ErrorFits, Each}
 
 -- ── The kinds ──
 

@@ -1,6 +1,4 @@
-pub mod Totals
-pub mod Loop
-pub mod Questions
+pub mod Answers
 pub mod Fits
 pub mod Places
 pub mod Back

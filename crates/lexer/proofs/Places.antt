@@ -9,13 +9,14 @@ use borrow.Author.Tests.{eq-eqb, ne-eqb}
 use lib.ListN.{length, length-append}
 use Rattle.characters.specs.Choice.{if_then_else_, _is_}
 use Rattle.rules.specs.Tokens.{Token}
-use Rattle.records.specs.Kinds.{EOF, hasText, isMade}
+use Rattle.rules.specs.Tables.{EOF}
+use Rattle.records.specs.Kinds.{hasText, isMade}
 use Rattle.records.specs.Answers.{got}
-use Rattle.records.specs.Reading.{nextAt}
+use Rattle.record_reading.specs.Reading.{nextAt}
 use Rattle.records.specs.Layout.{madeText, textBytes, textOffset, recordOf, tokenBytesFrom, tokenBytes}
-use Rattle.records.specs.Lists.{Small, TokenFits, Ended, Each}
+use Rattle.record_lists.specs.Lists.{Small, TokenFits, Ended, Each}
 use Rattle.records.proofs.Filling.{tokens-cons, texts-cons, length-record}
-use Rattle.records.proofs.Back.{readOf, placeAfter, next-back}
+use Rattle.record_lists.proofs.Back.{readOf, placeAfter, next-back}
 use Rattle.lexer.specs.Places.{Place, placeOf, placeTurn, placesFrom, Fills}
 use Rattle.lexer.proofs.Fits.{fixed-not-made}
 

@@ -4,9 +4,10 @@ use mathlib.Core.Path.{_≡_}
 use mathlib.Core.List.{List, [], _∷_, _++_}
 use Prim.Native.Nat.{ℕ, zero, suc, _+_}
 use Rattle.characters.specs.Choice.{if_then_else_, _is_}
-use Rattle.records.specs.Kinds.{EOF, isMade}
+use Rattle.rules.specs.Tables.{EOF}
+use Rattle.records.specs.Kinds.{isMade}
 use Rattle.records.specs.Answers.{Answer, got, refused}
-use Rattle.records.specs.Reading.{nextAt}
+use Rattle.record_reading.specs.Reading.{nextAt}
 use Rattle.records.specs.declared.answers.TokenRecord.{TokenRecord}
 
 pub record Place : Type 0 where

@@ -16,12 +16,16 @@ use Rattle.rules.specs.Marks.{spelling as markSpelling, markWith, markIn, parse
 use Rattle.rules.specs.Lexer.{segment, segments, advance, advances, span as segmentSpan, tokensOf, errorsOf, place, tokens, errors, closed, after, isSpace, skip, skips, skippedLineColumn}
 use Rattle.rules.specs.Segment.{wordEnd}
 use Rattle.rules.specs.Comments.{whiteSpace}
-use Rattle.characters.specs.Mark.{hasMark, markLength, afterMark}
+use Rattle.byte_order_mark.specs.Mark.{hasMark, markLength, afterMark}
 use Rattle.rules.specs.Script.{scriptText, scriptTokens, scriptErrors, scriptClosed}
-use Rattle.records.specs.Spelling.{ascii}
-use Rattle.lexer.specs.Tokenize.{needed, askUtf8, askText, _then_, measureAnswer}
-use Rattle.listing.specs.Numbers.{decimalIn, decimal, hexDigit, hexOf}
-use Rattle.listing.specs.Listing.{ending, field, spanFields, textField, headOf, tokenLine, tokenLines, errorLines, closedLine, refusedLine, answerLines, listing}
+use Rattle.spellings.specs.Spelling.{ascii}
+use Rattle.room.specs.Needed.{needed}
+use Rattle.questions.specs.Questions.{askUtf8, askText}
+use Rattle.lexer.specs.Tokenize.{_then_, measureAnswer}
+use Rattle.listing_fields.specs.Numbers.{decimalIn, decimal, hexDigit, hexOf}
+use Rattle.listing_fields.specs.Fields.{field, spanFields, textField}
+use Rattle.listing_lines.specs.Lines.{ending, headOf, tokenLine, tokenLines, errorLines, closedLine, refusedLine}
+use Rattle.listing.specs.Listing.{answerLines, listing}
 
 -- "For `val a=1` without a line feed it writes:"
 abbrev SAMPLE : List ℕ

@@ -13,49 +13,44 @@ use Rattle.characters.specs.Utf8.{firstBad, badClass}
 use Rattle.characters.specs.declared.Checked.{Checked}
 use Rattle.characters.specs.declared.Checked.the-variants.{Valid, BadAt}
 use Rattle.characters.proofs.Choice.{if-all}
-use Rattle.characters.proofs.Marks.{mark-length-after}
+use Rattle.byte_order_mark.proofs.Marks.{mark-length-after}
 use Rattle.rules.specs.Tokens.{Token, TokenizeError}
 use Rattle.rules.specs.Script.{accepted, scriptTokens, scriptErrors, scriptClosed}
 use Rattle.rules.proofs.Fits.{textLengths, token-count, error-count, text-count}
-use Rattle.records.specs.Spelling.{ascii}
+use Rattle.spellings.specs.Spelling.{ascii}
 use Rattle.records.specs.Answers.{Answer, got, refused}
 use Rattle.records.specs.Layout.{errorBytes}
 use Rattle.output.specs.Writing.{Put}
 use Rattle.output.proofs.Buffers.{front-part}
-use Rattle.lexer.specs.declared.Used.{Used}
+use Rattle.room.specs.declared.Used.{Used}
 use Rattle.lexer.specs.declared.Answer as code
 use Rattle.lexer.specs.declared.Answer.the-variants.{Done, Refused}
-use Rattle.lexer.specs.Tokenize.{needed, _then_, measureAnswer, tokenizeAnswer, bufferAfter, Tokenized}
-use Rattle.lexer.specs.Run.{mostTokens, mostTexts, mostErrors}
-use Rattle.lexer.proofs.Totals.{few-tokens, few-texts, few-errors}
-use Rattle.lexer.proofs.Questions.{text-valid, text-bad, yes-accepted, room-yes}
+use Rattle.room.specs.Needed.{needed}
+use Rattle.lexer.specs.Tokenize.{_then_, measureAnswer, tokenizeAnswer, bufferAfter, Tokenized}
+use Rattle.room.specs.Room.{mostTokens, mostTexts, mostErrors}
+use Rattle.room.proofs.Totals.{few-tokens, few-texts, few-errors}
+use Rattle.questions.proofs.Questions.{text-valid, text-bad, yes-accepted, room-yes}
 use Rattle.lexer.proofs.Back.{measure-says, measure-same, answers, tokens-read, errors-read}
-use Rattle.listing.specs.Listing.{ending, tokenLine, tokenLines, errorLine, errorLines, closedLine, refusedLine, answerLines, listing, LONGEST}
-use Rattle.listing.specs.Reading.{tokensRead, errorsRead, linesRead}
-use Rattle.listing.proofs.Lengths.{field-short, token-length, error-short}
+use Rattle.listing_fields.specs.Room.{Room}
+use Rattle.listing_lines.specs.Lines.{ending, tokenLine, tokenLines, errorLine, errorLines, closedLine, refusedLine}
+use Rattle.listing_lines.proofs.Lengths.{token-short, error-short, closed-short, refused-short}
+use Rattle.listing_reading.specs.Reading.{tokensRead, errorsRead, linesRead}
+use Rattle.listing.specs.Listing.{answerLines, listing, LISTED, LONGEST}
+use Rattle.listing.specs.Buffers.{TOKENS, TEXTS, ERRORS}
 
 -- ── How long it is at most ──
 
 tokens-short : (ts : List Token) → length (tokenLines ts) ≤ 151 * length ts + 2 * textLengths ts
 unfolding tokenLines textLengths
 tokens-short [] = zero-le
-tokens-short (t ∷ ts) = omega (arith, tokens-short ts, token-length t, length-append (tokenLine t) (tokenLines ts))
+tokens-short (t ∷ ts) = omega (arith, tokens-short ts, token-short t, length-append (tokenLine t) (tokenLines ts))
 
 errors-short : (es : List TokenizeError) → length (errorLines es) ≤ 170 * length es
 unfolding errorLines
 errors-short [] = zero-le
 errors-short (e ∷ es) = omega (arith, errors-short es, error-short e, length-append (errorLine e) (errorLines es))
 
-closed-short : (b : Bool) → length (closedLine b) ≤ 7
-unfolding closedLine
-closed-short true = omega arith
-closed-short false = omega arith
-
-refused-short : (n f : ℕ) → length (refusedLine n f) ≤ 50
-unfolding refusedLine
-refused-short n f = simp length-append (omega (arith, field-short n, field-short f))
-
-module _ (s : List ℕ) (h : length s ≤ 1024) where
+module _ (s : List ℕ) (h : length s ≤ LISTED) where
   accepted-short : accepted s ≡ true
       → length (tokenLines (scriptTokens s) ++ errorLines (scriptErrors s) ++ closedLine (scriptClosed s)) ≤ LONGEST
   accepted-short ok =
@@ -70,26 +65,26 @@ module _ (s : List ℕ) (h : length s ≤ 1024) where
 pub listing-short : (s : List ℕ) → length (listing s) ≤ LONGEST
 unfolding listing
 listing-short s =
-    if-all (λ (l : List ℕ). length l ≤ LONGEST) (leb (length s) 1024)
-    (λ e. answer-short s (leb-true (length s) 1024 e) (measureAnswer s) refl) (λ _. omega arith)
+    if-all (λ (l : List ℕ). length l ≤ LONGEST) (leb (length s) LISTED)
+    (λ e. answer-short s (leb-true (length s) LISTED e) (measureAnswer s) refl) (λ _. omega arith)
 
 -- ── Which case it is ──
 
 module _ (s : List ℕ) where
-  long-listing : 1024 < length s → ascii "long" ++ ending ≡ listing s
+  long-listing : LISTED < length s → ascii "long" ++ ending ≡ listing s
   unfolding listing
-  long-listing h = rw (lt-leb (length s) 1024 h)
+  long-listing h = rw (lt-leb (length s) LISTED h)
 
-  short-listing : length s ≤ 1024 → (a : Answer Used) → a ≡ measureAnswer s → answerLines s a ≡ listing s
+  short-listing : length s ≤ LISTED → (a : Answer Used) → a ≡ measureAnswer s → answerLines s a ≡ listing s
   unfolding listing
-  short-listing h a e = rw (le-leb (length s) 1024 h, e)
+  short-listing h a e = rw (le-leb (length s) LISTED h, e)
 
 -- ── After tokenising ──
 
 refused-is-not-got : (u : Used) (n f : ℕ) → _≡_ {A = Answer Used} (refused n f) (got u) → ⊥
 refused-is-not-got u n f e = let z : _≡_ {A = ℕ} 0 1 = cc in omega arith
 
-module _ (s tokens texts errors tokens′ texts′ errors′ : List ℕ) (h : length s ≤ 1024) where
+module _ (s tokens texts errors tokens′ texts′ errors′ : List ℕ) (h : length s ≤ LISTED) where
   module _ (u : Used) (w : Tokenized s tokens texts errors (Done u) tokens′ texts′ errors′) where
     read-listing : linesRead s texts′ tokens′ errors′ u ≡ listing s
     unfolding linesRead tokensRead errorsRead answerLines needed
@@ -100,8 +95,8 @@ module _ (s tokens texts errors tokens′ texts′ errors′ : List ℕ) (h : le
         let f = errors-read s tokens texts errors u tokens′ texts′ errors′ w (u .errors) (omega arith) in
         rw (t, f, e) (short-listing s h (got u) (measure-same s u (length tokens) (length texts) (length errors) (w .answer)))
 
-    lines-room : length (linesRead s texts′ tokens′ errors′ u) ≤ 100000000000000000
-    lines-room = rw read-listing (omega (arith, listing-short s))
+    lines-room : Room 0 (linesRead s texts′ tokens′ errors′ u)
+    lines-room = rw read-listing (record { fits = omega (arith, listing-short s) })
 
     errors-inside : u .errors ≤ length errors′
     unfolding bufferAfter needed
@@ -112,7 +107,7 @@ module _ (s tokens texts errors tokens′ texts′ errors′ : List ℕ) (h : le
         omega (arith, ap length (w .errors-after), length-append bytes (drop (length bytes) errors))
 
   -- No buffer is too small, so what is refused is refused by question 1 or 2.
-  module _ (a : 33825 ≤ length tokens) (b : 2050 ≤ length texts) (c : 29696 ≤ length errors) where
+  module _ (a : TOKENS ≤ length tokens) (b : TEXTS ≤ length texts) (c : ERRORS ≤ length errors) where
     asked : (x : Checked) (n f : ℕ) → firstBad s ≡ x → refused n f ≡ tokenizeAnswer s (length tokens) (length texts) (length errors)
         → refused n f ≡ measureAnswer s
     unfolding tokenizeAnswer measureAnswer _then_ mostTokens mostTexts mostErrors
@@ -139,16 +134,16 @@ Listed old new s r = (Put old new 0 (listing s) r) × (r ≤ LONGEST)
 listed : (a c s bytes : List ℕ) (r : ℕ) → bytes ≡ listing s → Put a c 0 bytes r → Listed a c s r
 listed a c s bytes r e p = (rw (← e) p, omega (arith, p .place, ap length e, listing-short s))
 
-pub long-listed : (a c s : List ℕ) (r : ℕ) → 1024 < length s → Put a c 0 (ascii "long" ++ ending) r → Listed a c s r
+pub long-listed : (a c s : List ℕ) (r : ℕ) → LISTED < length s → Put a c 0 (ascii "long" ++ ending) r → Listed a c s r
 long-listed a c s r h p = listed a c s (ascii "long" ++ ending) r (long-listing s h) p
 
 module _ (s tokens texts errors : List ℕ) (x : code.Answer) (tokens′ texts′ errors′ : List ℕ)
-    (w : Tokenized s tokens texts errors x tokens′ texts′ errors′) (h : length s ≤ 1024) where
+    (w : Tokenized s tokens texts errors x tokens′ texts′ errors′) (h : length s ≤ LISTED) where
   module _ (u : Used) (e : x ≡ Done u) where
     done : Tokenized s tokens texts errors (Done u) tokens′ texts′ errors′
     done = rw e at w
 
-    pub read-room : (u .errors ≤ length errors′) × (length (linesRead s texts′ tokens′ errors′ u) ≤ 100000000000000000)
+    pub read-room : (u .errors ≤ length errors′) × Room 0 (linesRead s texts′ tokens′ errors′ u)
     read-room =
         (errors-inside s tokens texts errors tokens′ texts′ errors′ h u done, lines-room s tokens texts errors tokens′ texts′ errors′ h u done)
 
@@ -156,7 +151,7 @@ module _ (s tokens texts errors : List ℕ) (x : code.Answer) (tokens′ texts�
     read-listed a c r p =
         listed a c s (linesRead s texts′ tokens′ errors′ u) r (read-listing s tokens texts errors tokens′ texts′ errors′ h u done) p
 
-  pub refused-listed : (n f : ℕ) → x ≡ Refused n f → 33825 ≡ length tokens → 2050 ≡ length texts → 29696 ≡ length errors
+  pub refused-listed : (n f : ℕ) → x ≡ Refused n f → TOKENS ≡ length tokens → TEXTS ≡ length texts → ERRORS ≡ length errors
       → (a c : List ℕ) (r : ℕ) → Put a c 0 (refusedLine n f) r → Listed a c s r
   refused-listed n f e k l m a c r p =
       let v : Tokenized s tokens texts errors (Refused n f) tokens′ texts′ errors′ = rw e at w in

@@ -1,3 +1,2 @@
-pub mod Numbers
 pub mod Listing
-pub mod Reading
+pub mod Buffers

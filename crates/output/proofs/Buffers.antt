@@ -161,10 +161,6 @@ part-put old new s from to at n h k f e =
       place = ap (λ (m : ℕ). at + m) (sym (length-slice from to s k));
     }
 
--- Writing keeps a buffer's length.
-pub same-size : (new old : List ℕ) (at : ℕ) (vs : List ℕ) → new ≡ sets old at vs → length new ≡ length old
-same-size new old at vs e = ap length e ∙ length-sets old at vs
-
 -- ── A loop of writes: what is still to be written, from here on, gives what the whole gives from the start on ──
 
 pub record Writing (old b : List ℕ) (at p : ℕ) (rest all : List ℕ) : Type 0 where

@@ -1,6 +1,5 @@
 -- Bytes written into a lent buffer from a place on. `sets` passes over what lies outside the buffer, so a write asks for no room:
--- where
--- the buffer is too small the bytes that fit are written, and the place after the whole is answered all the same.
+-- where the buffer is too small the bytes that fit are written, and the place after the whole is answered all the same.
 use mathlib.Core.Path.{_≡_}
 use mathlib.Core.List.{List}
 use mathlib.Core.Logic.{_⊎_}

@@ -7,9 +7,8 @@ ghost use lib.Seq.{slice, sets};
 ghost use Rattle.characters.specs.Utf8.{encodeChar};
 ghost use Rattle.records.specs.Records.{tokenRecord, errorRecord};
 ghost use Rattle.output.specs.Writing.{Put, Fitting, PLACES};
-use characters::encoding;
+use records::fields;
 use records::kinds;
-use records::write;
 use spans::Span;
 
 // One byte.
@@ -98,13 +97,13 @@ pub fn put_token(
 {
     let n = kinds::record_length(kind);
     if at + n <= buf.len() {
-        return write::put_token(buf, at, kind, span, offset, len);
+        return record_writing::put_token(buf, at, kind, span, offset, len);
     }
     if buf.len() <= at {
         return at + n;
     }
-    let mut bytes = [0u8; 33];
-    write::put_token(&mut bytes, 0, kind, span, offset, len);
+    let mut bytes = [0u8; fields::WITH_TEXT];
+    record_writing::put_token(&mut bytes, 0, kind, span, offset, len);
     put_part(&bytes, 0, n, buf, at)
 }
 
@@ -115,12 +114,12 @@ pub fn put_error(buf: &mut [u8], at: usize, kind: u8, span: Span, code: u32) -> 
 {
     let n = kinds::error_length(kind);
     if at + n <= buf.len() {
-        return write::put_error(buf, at, kind, span, code);
+        return record_writing::put_error(buf, at, kind, span, code);
     }
     if buf.len() <= at {
         return at + n;
     }
-    let mut bytes = [0u8; 29];
-    write::put_error(&mut bytes, 0, kind, span, code);
+    let mut bytes = [0u8; fields::WITH_CODE];
+    record_writing::put_error(&mut bytes, 0, kind, span, code);
     put_part(&bytes, 0, n, buf, at)
 }

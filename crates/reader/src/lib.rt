@@ -1,12 +1,12 @@
-// A reader that holds a slice of token records and a place in it: thin functions over those of `records`, whose answers hold the
+// A reader that holds a slice of token records and a place in it: thin functions over those of `record_reading`, whose answers hold the
 // place where the reader then stands.
 ghost use mathlib.Core.Path.{_≡_};
 ghost use Rattle.records.specs.Answers.{ofNext, ofConsumed, ofMatched};
-ghost use Rattle.records.specs.Reading.{nextAt, consumeAt, matchAt};
+ghost use Rattle.record_reading.specs.Reading.{nextAt, consumeAt, matchAt};
+use record_reading::read;
 use records::answers::Consumed;
 use records::answers::Matched;
 use records::answers::Next;
-use records::read;
 
 pub struct Reader<'a> {
     pub records: &'a [u8],

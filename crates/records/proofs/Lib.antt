@@ -1,10 +1,4 @@
 pub mod KindLaws
 pub mod Sets
 pub mod Bytes
-pub mod Places
-pub mod Turns
-pub mod TextLaws
-pub mod Shift
-pub mod Front
-pub mod Back
 pub mod Filling

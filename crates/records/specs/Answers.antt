@@ -20,6 +20,16 @@ pub data Answer (A : Type 0) : Type 0 where
   got : A → Answer A
   refused : ℕ → ℕ → Answer A
 
+-- The questions of the reader and of the text calls: 6 asks for the kind, 7 for the record at the place, 8 for its text.
+abbrev pub RefusedKind : ℕ
+RefusedKind = 6
+
+abbrev pub RefusedPlace : ℕ
+RefusedPlace = 7
+
+abbrev pub RefusedText : ℕ
+RefusedText = 8
+
 abbrev pub ofTextCheck : TextCheck → Answer (Unit {0})
 ofTextCheck check.Inside = got tt
 ofTextCheck (check.Refused x) = refused (x .number) (x .figure)

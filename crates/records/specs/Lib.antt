@@ -1,8 +1,5 @@
+pub mod Fields
 pub mod Kinds
 pub mod Records
 pub mod Answers
-pub mod Reading
-pub mod Texts
-pub mod Spelling
 pub mod Layout
-pub mod Lists

@@ -10,10 +10,10 @@ use lib.Dec.{leb}
 use lib.ListN.{length}
 use Rattle.characters.specs.Choice.{within}
 use Rattle.characters.specs.Utf8.{isScalar, encodeChar, charsOf, isUtf8, isValid, firstBad, checkPast, bytes}
-use Rattle.characters.specs.Mark.{hasMark, afterMark}
+use Rattle.byte_order_mark.specs.Mark.{hasMark, afterMark}
 use Rattle.characters.proofs.Choice.{and-both}
 use Rattle.characters.proofs.Texts.{chars-nil, chars-encoded, chars-append, valid-length}
-use Rattle.characters.proofs.Marks.{no-mark-chars, utf8-after-mark, after-mark-append}
+use Rattle.byte_order_mark.proofs.Marks.{no-mark-chars, utf8-after-mark, after-mark-append}
 use Rattle.rules.specs.Text.{LF}
 use Rattle.rules.specs.Tokens.{Token}
 use Rattle.rules.specs.Lexer.{segments, place, origin, lexed, eof, tokens, errors, closed}

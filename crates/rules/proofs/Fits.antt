@@ -10,11 +10,11 @@ use borrow.Author.Tests.{leb-true}
 use lib.Dec.{leb}
 use lib.ListN.{length, take, drop, length-map}
 use Rattle.characters.specs.Utf8.{isUtf8, Scalars, charsOf, encode, bytes}
-use Rattle.characters.specs.Mark.{afterMark}
+use Rattle.byte_order_mark.specs.Mark.{afterMark}
 use Rattle.characters.proofs.Choice.{and-both}
 use Rattle.characters.proofs.Widths.{encode-one, scalar-bounds}
 use Rattle.characters.proofs.Texts.{encode-length, encode-append, bytes-append, encode-drop, encode-take, chars-scalar, valid-encode, valid-length}
-use Rattle.characters.proofs.Marks.{mark-length-after, utf8-after-mark}
+use Rattle.byte_order_mark.proofs.Marks.{mark-length-after, utf8-after-mark}
 use Rattle.spans.specs.declared.Position.{Position}
 use Rattle.spans.specs.declared.Span.{Span}
 use Rattle.rules.specs.Text.{Char, Text}

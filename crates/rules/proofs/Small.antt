@@ -6,7 +6,7 @@ use Prim.Native.Nat.{ℕ}
 use Rattle.characters.specs.Choice.{within}
 use Rattle.characters.specs.Utf8.{sequence, firstOf, after as afterChar, charsPast, charsOf, checkAfter, checkPast, firstBad, isValid, isUtf8, width, encodeChar, encode}
 use Rattle.characters.specs.Space.{isWhite}
-use Rattle.characters.specs.Mark.{hasMark, markLength, afterMark}
+use Rattle.byte_order_mark.specs.Mark.{hasMark, markLength, afterMark}
 use Rattle.spans.specs.Span.{single, earlier, merge}
 use Rattle.rules.specs.Text.{Text, text, oneOf, isEmpty, sameText, isDigit, isLetter, isHexDigit, isIdentStart, isIdentPart, hexValue}
 use Rattle.rules.specs.Scan.{next, startsWith, run, one}

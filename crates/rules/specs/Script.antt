@@ -5,7 +5,7 @@ use Prim.Native.Nat.{ℕ}
 use lib.Dec.{leb}
 use lib.ListN.{length}
 use Rattle.characters.specs.Utf8.{charsOf, isUtf8, encode}
-use Rattle.characters.specs.Mark.{afterMark}
+use Rattle.byte_order_mark.specs.Mark.{afterMark}
 use Rattle.rules.specs.Text.{Text}
 use Rattle.rules.specs.Tokens.{Token, TokenizeError}
 use Rattle.rules.specs.Lexer.{tokens, errors, closed}

@@ -5,7 +5,7 @@ use mathlib.Core.List.{List, _∷_, _++_, map, dropLast}
 use Prim.Native.Nat.{ℕ, suc, _+_}
 use lib.ListN.{length}
 use Rattle.characters.specs.Choice.{if_then_else_, _is_}
-use Rattle.characters.specs.Mark.{afterMark}
+use Rattle.byte_order_mark.specs.Mark.{afterMark}
 use Rattle.spans.specs.declared.Span.{Span}
 use Rattle.rules.specs.Text.{LF}
 use Rattle.rules.specs.Tokens.{Token, TokenizeError}

@@ -58,9 +58,9 @@ isIdentStart c = isLetter c || c is ch "_" || c is ch "$"
 unfoldable pub isIdentPart : Char → Bool
 isIdentPart c = isLetter c || isDigit c || c is ch "_" || c is ch "$"
 
--- The value of a hexadecimal digit (`to_digit(16)`).
+-- The value of a hexadecimal digit (`to_digit(16)`): `A` and `a` are 10.
 unfoldable pub hexValue : Char → ℕ
 hexValue c =
     if isDigit c then c - ch "0"
-    else if within (ch "A") (ch "F") c then c - 55
-    else c - 87
+    else if within (ch "A") (ch "F") c then c - (ch "A" - 10)
+    else c - (ch "a" - 10)

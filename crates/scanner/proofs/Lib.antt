@@ -1,10 +1,1 @@
-pub mod Entries
-pub mod Founds
-pub mod Plain
-pub mod Words
-pub mod Giving
-pub mod Begun
-pub mod Parts
-pub mod Others
-pub mod Insides
-pub mod Choices
+pub mod Stepping

@@ -1,3 +1,1 @@
-pub mod Step
-pub mod Tokens
-pub mod Inside
+pub mod Entry

@@ -8,7 +8,7 @@ use native.Mathlib.Omega.{arith}
 use lib.Dec.{T, eqb, eqb→eq}
 use lib.ListN.{length, getD, take, drop, length-append, List·getD-eq-default}
 use lib.Seq.{drop-cons, take-at, drop-append-add}
-use Rattle.records.specs.Spelling.{spellings, spelling, padded, spellingRow, joined, spellingTable}
+use Rattle.spellings.specs.Spelling.{spellings, spelling, padded, spellingRow, joined, spellingTable}
 
 -- ── A table of rows of ten ──
 

@@ -1,9 +1,14 @@
 // The fixed spellings.
 ghost use mathlib.Core.Path.{_≡_};
-ghost use Rattle.records.specs.Spelling.{spellingRow, spellingTable};
+ghost use Rattle.spellings.specs.Spelling.{spellingRow, spellingTable};
 
-// Ten bytes for each kind, from 0 to 125: the length of its spelling, and then its bytes with zeros after them.
-const SPELLINGS: [u8; 1260] = *b"\
+// The bytes of a row: the length of a spelling, and then its bytes with zeros after them.
+pub const ROW: usize = 10;
+
+// A row for each kind, from 0 to 125.
+pub const TABLE: usize = (rules::kinds::ERROR as usize + 1) * ROW;
+
+const SPELLINGS: [u8; TABLE] = *b"\
     \0\0\0\0\0\0\0\0\0\0\
     \0\0\0\0\0\0\0\0\0\0\
     \0\0\0\0\0\0\0\0\0\0\
@@ -131,16 +136,15 @@ const SPELLINGS: [u8; 1260] = *b"\
     \0\0\0\0\0\0\0\0\0\0\
     \0\0\0\0\0\0\0\0\0\0";
 
-// The spelling of a kind, from a table that is lent: its length, and then its bytes with zeros after them. A kind over 125 has
-// none.
-pub fn spelling_in(table: &[u8; 1260], kind: u8) -> [u8; 10]
+// The row of a kind, from a table that is lent. A kind over 125 has no spelling.
+pub fn spelling_in(table: &[u8; TABLE], kind: u8) -> [u8; ROW]
     requires { ⌜ now table ≡ spellingTable ⌝ }
     ensures { λ r. ⌜ r ≡ spellingRow kind ⌝ }
 {
-    if 125 < kind {
-        return [0; 10];
+    if rules::kinds::ERROR < kind {
+        return [0; ROW];
     }
-    let at = (kind as usize) * 10;
+    let at = (kind as usize) * ROW;
     [
         table[at],
         table[at + 1],
@@ -156,7 +160,7 @@ pub fn spelling_in(table: &[u8; 1260], kind: u8) -> [u8; 10]
 }
 
 // The spelling of a kind.
-pub fn spelling(kind: u8) -> [u8; 10]
+pub fn spelling(kind: u8) -> [u8; ROW]
     ensures { λ r. ⌜ r ≡ spellingRow kind ⌝ }
 {
     spelling_in(&SPELLINGS, kind)

@@ -33,15 +33,15 @@ use Rattle.walks.specs.Errors.{unclosed}
 use Rattle.walks.proofs.Errors.{put-no}
 use Rattle.walks.proofs.Enclosed.{reach-offset}
 use Rattle.walks.proofs.Whole.{reach-forth}
-use Rattle.strings.specs.declared.Run.{Run}
-use Rattle.strings.specs.declared.Given.{Given}
+use Rattle.string_runs.specs.declared.Run.{Run}
+use Rattle.interpolations.specs.declared.Given.{Given}
 use Rattle.strings.specs.declared.Piece.{Piece}
 use Rattle.strings.specs.declared.Piece.the-variants as piece
-use Rattle.strings.specs.Runs.{runChars, runMade, runErrors, RunAt}
-use Rattle.strings.specs.Interpolations.{interpolationAt, InterpolationAt}
+use Rattle.string_runs.specs.Runs.{runChars, runMade, runErrors, RunAt}
+use Rattle.interpolations.specs.Interpolations.{interpolationAt, InterpolationAt}
 use Rattle.strings.specs.Pieces.{literalPiece, tokenOf, credit, Over, PieceAt}
-use Rattle.strings.proofs.RunLaws.{error-few}
-use Rattle.strings.proofs.InterpLaws.{interp-first, text-size, interp-few}
+use Rattle.string_runs.proofs.RunLaws.{error-few}
+use Rattle.interpolations.proofs.InterpLaws.{interp-first, text-size, interp-few}
 
 -- ── The units at the front of a text are whole ──
 

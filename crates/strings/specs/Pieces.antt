@@ -18,8 +18,9 @@ use Rattle.bridge.specs.Bridge.{Within}
 use Rattle.output.specs.Writing.{Put}
 use Rattle.records.specs.Kinds.{isMade}
 use Rattle.records.specs.Layout.{errorBytes}
-use Rattle.strings.specs.declared.Run.{Run}
-use Rattle.strings.specs.declared.Given.{Given}
+use Rattle.string_runs.specs.declared.Run.{Run}
+use Rattle.records.specs.Fields.{LONGEST-ERROR}
+use Rattle.interpolations.specs.declared.Given.{Given}
 use Rattle.strings.specs.declared.Piece.{Piece}
 use Rattle.strings.specs.declared.Piece.the-variants as piece
 
@@ -39,9 +40,9 @@ literalPiece start end from r next ran-out errors =
 abbrev pub tokenOf : TokenRecord → Text → Token
 tokenOf r t = record { kind = r .kind; text = t; span = r .span }
 
--- A string's errors may take 29 bytes for each byte passed; its opening quote counts where it is left.
+-- A string's errors may take LONGEST-ERROR bytes for each byte passed; its opening quote counts where it is left.
 abbrev pub credit : Cursor → ℕ
-credit (Outside p) = 29
+credit (Outside p) = LONGEST-ERROR
 credit (InString start p) = 0
 
 -- A token: what was left inside the string is the token and its errors, and then what is left from the next cursor on. Its text is
@@ -60,7 +61,7 @@ pub record Gives (s : List ℕ) (p start : Position) (first : Bool) (texts texts
   pub within : Within s (position (r .next))
   pub forth : p .offset ≤ position (r .next) .offset
   pub small : r .texts ≤ ut + 3 * (position (r .next) .offset - p .offset)
-  pub few : r .errors ≤ ue + 29 * (position (r .next) .offset - p .offset) + credit (r .next)
+  pub few : r .errors ≤ ue + LONGEST-ERROR * (position (r .next) .offset - p .offset) + credit (r .next)
 
 -- The string is over at `q`, without a token: what was left is the errors, and then what is left outside from `q` on.
 pub record Over (s : List ℕ) (p start : Position) (first : Bool) (texts texts′ errors errors′ : List ℕ) (ue : ℕ) (q : Position) (me : ℕ) : Type 0 where
@@ -73,7 +74,7 @@ pub record Over (s : List ℕ) (p start : Position) (first : Bool) (texts texts�
   pub noted : Put errors errors′ ue (errorBytes recorded) me
   pub within : Within s q
   pub forth : p .offset < q .offset
-  pub few : me ≤ ue + 29 * (q .offset - p .offset)
+  pub few : me ≤ ue + LONGEST-ERROR * (q .offset - p .offset)
 
 abbrev pub PieceAt : List ℕ → Position → Position → Bool → List ℕ → List ℕ → ℕ → List ℕ → List ℕ → ℕ → Piece → Type 0
 PieceAt s p start first texts texts′ ut errors errors′ ue (piece.Token r) = Gives s p start first texts texts′ ut errors errors′ ue r

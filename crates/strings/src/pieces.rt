@@ -2,17 +2,20 @@
 ghost use mathlib.Core.Path.{_≡_};
 ghost use Prim.Native.Nat.{_≤_};
 ghost use Rattle.bridge.specs.Bridge.{Within};
-ghost use Rattle.strings.specs.Runs.{Room};
+ghost use Rattle.string_runs.specs.Runs.{Room};
 ghost use Rattle.strings.specs.Pieces.{literalPiece, PieceAt};
-use super::Given;
 use super::Piece;
-use super::Run;
-use super::interpolations;
-use super::runs;
 use bridge::Ahead;
 use cursor::Cursor;
+use interpolations::Given;
 use records::answers::TokenRecord;
+use rules::error_kinds::LINE_FEED_IN_STRING;
+use rules::error_kinds::UNTERMINATED_STRING;
+use rules::kinds;
 use spans::Position;
+use string_runs::Run;
+use string_units::LINE_FEED;
+use string_units::QUOTE;
 use walks::error;
 
 // The literal from `start` to `end` whose text stands in the texts from a place on, up to where the run `r` left off.
@@ -30,7 +33,7 @@ fn literal(
 {
     let to = r.texts;
     let token = TokenRecord {
-        kind: 2,
+        kind: kinds::STRING_LITERAL,
         span: error::between(start, end),
         offset: from,
         length: to - from,
@@ -59,19 +62,19 @@ pub fn piece(
     requires { ⌜ Room «used_texts» «used_errors» ⌝ }
     ensures { λ r. ⌜ PieceAt (now (text .entry)) p start first (now (texts .entry)) (now (texts .exit)) «used_texts» (now (errors .entry)) (now (errors .exit)) «used_errors» r ⌝ }
 {
-    let r = runs::run_units(text, p, texts, used_texts, errors, used_errors);
+    let r = string_runs::run_units(text, p, texts, used_texts, errors, used_errors);
     let stop = r.at;
     let Ahead::Char(c, q) = bridge::look(text, stop) else {
-        let noted = error::put_unclosed(errors, r.errors, false, 4, stop, stop);
+        let noted = error::put_unclosed(errors, r.errors, false, UNTERMINATED_STRING, stop, stop);
         let outside = Cursor::Outside(stop);
         return literal(start, stop, used_texts, r, outside, true, noted);
     };
-    if c == 10 {
-        let noted = error::put_unclosed(errors, r.errors, false, 5, start, stop);
+    if c == LINE_FEED {
+        let noted = error::put_unclosed(errors, r.errors, false, LINE_FEED_IN_STRING, start, stop);
         let next = Cursor::Outside(stop);
         return literal(start, stop, used_texts, r, next, false, noted);
     }
-    if c == 34 {
+    if c == QUOTE {
         let next = Cursor::Outside(q);
         if first {
             return literal(start, q, used_texts, r, next, false, r.errors);

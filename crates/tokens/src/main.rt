@@ -5,10 +5,10 @@ ghost use lib.ListN.{length};
 ghost use Rattle.listing.specs.Listing.{listing, LONGEST};
 
 // Room for the longest listing. The contract gives only the length.
-fn listing_buffer() -> [u8; 332962]
+fn listing_buffer() -> [u8; listing::LONGEST]
     ensures { λ r. ⌜ LONGEST ≡ length r ⌝ }
 {
-    [0; 332962]
+    [0; listing::LONGEST]
 }
 
 // The listing of a script, in a buffer that holds every listing.
@@ -20,9 +20,9 @@ fn listed<'a>(script: &[u8], out: &'a mut [u8]) -> &'a mut [u8]
     &mut out[..k]
 }
 
-// One byte more than 1,024 is read, so that a longer input is told from one that fits.
+// One byte more than a script may have is read, so that a longer input is told from one that fits.
 fn main() {
-    let mut input = [0u8; 1025];
+    let mut input = [0u8; listing::LISTED + 1];
     let n = io::read_full(0, &mut input);
     let mut out = listing_buffer();
     let lines = listed(&input[..n], &mut out);

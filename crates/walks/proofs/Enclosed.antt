@@ -11,14 +11,16 @@ use Rattle.characters.specs.Utf8.{charsAt, bytes, encode}
 use Rattle.characters.proofs.Texts.{chars-slice}
 use Rattle.spans.specs.declared.Position.{Position}
 use Rattle.rules.specs.Text.{Text}
-use Rattle.rules.specs.Scan.{startsWith, Upto, upTo, closing}
+use Rattle.rules.specs.Scan.{startsWith, run, Upto, upTo, closing}
+use Rattle.rules.specs.Comments.{notLF}
 use Rattle.rules.proofs.Front.{upTo-splits}
 use Rattle.rules.proofs.Placed.{advances-offset}
 use Rattle.bridge.specs.Bridge.{Within, Reach, onward, Flat}
 use Rattle.bridge.proofs.Bytes.{starts-self}
 use Rattle.bridge.proofs.Reaches.{reach-nil, reach-join, flat-reach}
-use Rattle.walks.specs.Walks.{UpToAt, behindMark}
+use Rattle.walks.specs.Walks.{feed, UpToAt, behindMark}
 use Rattle.walks.specs.declared.Closing.{Closing}
+use Rattle.walks.proofs.Walks.{run-upTo}
 
 -- ── Where a reach leads ──
 
@@ -104,3 +106,11 @@ module _ (begin mark : Text) (s : List ℕ) (p q : Position) (c : Closing) (r : 
       subst (λ (v : Upto). Reach s p (begin ++ (v .before ++ closing mark v)) (behindMark c (length mark))) (sym same-upto)
       (reach-join s p q (behindMark c (length mark)) begin (u .before ++ closing mark u) r
       (reach-join s q (c .at) (behindMark c (length mark)) (u .before) (closing mark u) (x .reach) (reach-mark mark s q c x f)))
+
+-- A mark, and what stands behind it on its line.
+pub line-reach : (begin : Text) (s : List ℕ) (p q : Position) (c : Closing) → Reach s p begin q → UpToAt feed s q c
+    → Reach s p (begin ++ run notLF (drop (length begin) (charsAt s (p .offset))) .taken) (c .at)
+line-reach begin s p q c r x =
+    subst (λ (t : Text). Reach s p (begin ++ t) (c .at))
+    (sym (run-upTo (drop (length begin) (charsAt s (p .offset))) ∙ ap (λ (u : Upto). u .before) (same-upto begin feed s p q c r x)))
+    (reach-join s p q (c .at) begin (upTo feed (charsAt s (q .offset)) .before) r (x .reach))

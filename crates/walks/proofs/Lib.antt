@@ -5,8 +5,3 @@ pub mod Segments
 pub mod Enclosed
 pub mod Errors
 pub mod Whole
-pub mod Stops
-pub mod Skips
-pub mod Comments
-pub mod Unexpected
-pub mod Tokens

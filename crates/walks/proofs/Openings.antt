@@ -15,7 +15,7 @@ use Rattle.rules.specs.Marks.{parseMark}
 use Rattle.rules.specs.Strings.{parseRawString, parseQuote}
 use Rattle.rules.specs.Lexer.{dollarBraces, parseDollar, segment}
 use Rattle.rules.proofs.Ahead.{is-eq}
-use Rattle.walks.specs.Skips.{opensLine, opensDoc, opensBlock}
+use Rattle.walks.specs.Openings.{opensLine, opensDoc, opensBlock}
 
 -- ── By the first character ──
 

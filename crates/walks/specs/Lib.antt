@@ -1,5 +1,4 @@
 pub mod Errors
 pub mod Walks
 pub mod Segments
-pub mod Skips
-pub mod Tokens
+pub mod Openings

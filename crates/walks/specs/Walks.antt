@@ -1,12 +1,12 @@
 -- What walks to a closing mark promise.
 use mathlib.Core.Path.{_≡_}
-use mathlib.Core.Bool.{Bool, _&&_, not}
+use mathlib.Core.Bool.{not}
 use mathlib.Core.List.{List, [], _∷_}
 use Prim.Native.Nat.{ℕ}
-use Rattle.characters.specs.Choice.{if_then_else_, _is_, within}
+use Rattle.characters.specs.Choice.{if_then_else_}
 use Rattle.characters.specs.Utf8.{charsAt}
 use Rattle.spans.specs.declared.Position.{Position}
-use Rattle.rules.specs.Text.{Char, Text, text, LF}
+use Rattle.rules.specs.Text.{Text, text, LF}
 use Rattle.rules.specs.Scan.{upTo}
 use Rattle.bridge.specs.Bridge.{Reach, onward}
 use Rattle.walks.specs.declared.Closing.{Closing}

@@ -15,8 +15,8 @@ pub fn to_pair(text: &[u8], p: Position) -> Closing
 {
     let mut at = p;
     loop {
-        at = bridge::past_plain(text, at, 42, 42, 42);
-        if ahead::pair_at(text, at.offset, 42, 47) {
+        at = bridge::past_plain(text, at, b'*', b'*', b'*');
+        if ahead::pair_at(text, at.offset, b'*', b'/') {
             return Closing { at, found: true };
         }
         let Ahead::Char(_, next) = bridge::look(text, at) else {
@@ -33,8 +33,8 @@ pub fn to_quotes(text: &[u8], p: Position) -> Closing
 {
     let mut at = p;
     loop {
-        at = bridge::past_plain(text, at, 34, 34, 34);
-        if ahead::three_at(text, at.offset, 34, 34, 34) {
+        at = bridge::past_plain(text, at, b'"', b'"', b'"');
+        if ahead::three_at(text, at.offset, b'"', b'"', b'"') {
             return Closing { at, found: true };
         }
         let Ahead::Char(_, next) = bridge::look(text, at) else {

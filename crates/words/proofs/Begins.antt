@@ -1,19 +1,17 @@
 -- The word that begins at a place, by its class. Assumes nothing.
-use mathlib.Core.Path.{_≡_, refl, sym, _∙_, ap, subst}
+use mathlib.Core.Path.{_≡_, refl, sym, _∙_}
 use mathlib.Core.Bool.{Bool, true, false, _||_, not, and-true, true≢false}
 use mathlib.Core.List.{List, [], _∷_}
-use Prim.Native.Nat.{ℕ, _+_, _-_, _≤_, _<_}
+use Prim.Native.Nat.{ℕ, _+_, _≤_}
 use lib.ListN.{length, getD}
-use lib.Seq.{slice}
 use native.Mathlib.Omega.{arith}
 use borrow.Author.Tests.{eqb-true, eq-eqb, ne-eqb, not-true}
 use Rattle.characters.specs.Choice.{_is_, within}
 use Rattle.characters.specs.Utf8.{charsAt}
 use Rattle.characters.proofs.Choice.{or-neither, within-bounds}
 use Rattle.rules.specs.Text.{Text, ch, text, isDigit, isIdentPart}
-use Rattle.rules.specs.Scan.{next, startsWith, run, nothing, takes}
-use Rattle.rules.specs.Tables.{Ident, lookupKeyword}
-use Rattle.rules.specs.Segment.{wordToken}
+use Rattle.rules.specs.Scan.{next, startsWith, nothing, takes}
+use Rattle.rules.specs.Tables.{Ident}
 use Rattle.rules.specs.Numbers.{parseNumber}
 use Rattle.rules.specs.Names.{parseIdentifierOrKeyword}
 use Rattle.rules.specs.Marks.{parseMark}
@@ -22,33 +20,15 @@ use Rattle.rules.specs.Lexer.{parseDollar, segment}
 use Rattle.bridge.specs.Bridge.{exactly, Cut}
 use Rattle.bridge.proofs.Tests.{low-weak}
 use Rattle.bridge.proofs.Bytes.{byte-next, starts-one}
-use Rattle.bridge.proofs.Cuts.{cut-nothing, cut-cons, cut-length}
-use Rattle.words.specs.Classes.{SLASH, DOLLAR, LETTER, DIGIT, classOf}
-use Rattle.words.specs.Words.{isWordClass, beginsWord, Begun, WordAt}
-use Rattle.words.proofs.Tests.{digit-low, part-low}
-use Rattle.words.proofs.Words.{word-of, word-last, text-plain, end-word}
-use Rattle.words.proofs.Numbers.{run-some}
-use Rattle.words.proofs.Keywords.{kind-plain}
-use Rattle.words.proofs.Classes.{class-low, class-there, letter-part, digit-part, dollar-is, slash-is}
+use Rattle.bridge.proofs.Cuts.{cut-nothing, cut-cons}
+use Rattle.lexemes.specs.Words.{WordAt}
+use Rattle.lexemes.proofs.Tests.{digit-low}
+use Rattle.lexemes.proofs.Words.{word-of, text-plain, end-word}
+use Rattle.classes.specs.Classes.{SLASH, DOLLAR, LETTER, DIGIT, classOf}
+use Rattle.classes.proofs.Classes.{class-low, class-there, letter-part, digit-part, dollar-is, slash-is}
+use Rattle.names.proofs.Tests.{part-low}
+use Rattle.words.specs.Words.{isWordClass, beginsWord, Begun}
 use Rattle.words.proofs.Segments.{slash-segment, dollar-segment, digit-segment, letter-segment, mark-segment}
-
--- ── Names ──
-
-pub name-some : (s : List ℕ) (at to : ℕ) → next isIdentPart (charsAt s at) ≡ true
-    → Cut s at (run isIdentPart (charsAt s at)) to → at < to
-name-some s at to h x =
-    let n = run-some isIdentPart (charsAt s at) h in
-    omega (arith, cut-length s at to (run isIdentPart (charsAt s at)) x)
-
-pub name-word : (s : List ℕ) (at to k : ℕ) → next isIdentPart (charsAt s at) ≡ true
-    → Cut s at (run isIdentPart (charsAt s at)) to → k ≡ lookupKeyword (slice at to s)
-    → WordAt s at (parseIdentifierOrKeyword (charsAt s at)) k (to - at) (to - at - 1)
-unfolding parseIdentifierOrKeyword
-name-word s at to k h x e =
-    let a = run isIdentPart (charsAt s at) in
-    let q : k ≡ lookupKeyword (a .taken) = e ∙ ap lookupKeyword (x .bytes) in
-    let w = word-last s at to (lookupKeyword (a .taken)) a (kind-plain (a .taken)) (name-some s at to h x) x in
-    subst (λ (m : ℕ). WordAt s at (wordToken (lookupKeyword (a .taken)) (a .taken)) m (to - at) (to - at - 1)) (sym q) w
 
 -- ── A slash that begins no comment ──
 

@@ -1,10 +1,3 @@
-pub mod Lists
-pub mod Tests
-pub mod Words
-pub mod Numbers
-pub mod Classes
 pub mod Segments
-pub mod Marks
 pub mod Others
-pub mod Keywords
 pub mod Begins

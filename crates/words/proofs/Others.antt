@@ -16,9 +16,9 @@ use Rattle.rules.specs.Segment.{Segment}
 use Rattle.rules.specs.Comments.{whiteSpace}
 use Rattle.rules.specs.Marks.{unexpected}
 use Rattle.rules.specs.Lexer.{segment}
-use Rattle.words.specs.Classes.{OTHER, classOf}
+use Rattle.classes.specs.Classes.{OTHER, classOf}
+use Rattle.marks.proofs.Marks.{other-mark, wide-mark}
 use Rattle.words.proofs.Segments.{segmentBy, leadClass, segment-class}
-use Rattle.words.proofs.Marks.{other-mark, wide-mark}
 
 -- An ASCII character that begins nothing.
 pub other-segment : (s : List ℕ) (at : ℕ) → at < length s → getD s at 0 < 128 → classOf (getD s at 0) ≡ OTHER

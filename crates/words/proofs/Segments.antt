@@ -20,9 +20,9 @@ use Rattle.rules.specs.Strings.{parseQuote}
 use Rattle.rules.specs.Characters.{parseChar}
 use Rattle.rules.specs.Docs.{parseSlashOrComment}
 use Rattle.rules.specs.Lexer.{parseDollar, segment}
-use Rattle.words.specs.Classes.{SLASH, SPACE, APOSTROPHE, QUOTE, DOLLAR, LETTER, DIGIT, markChars, placeFrom, classOf}
-use Rattle.words.proofs.Lists.{allBelow, below}
-use Rattle.words.proofs.Classes.{class-low, class-char}
+use Rattle.lexemes.proofs.Lists.{allBelow, below}
+use Rattle.classes.specs.Classes.{SLASH, SPACE, APOSTROPHE, QUOTE, DOLLAR, LETTER, DIGIT, markChars, placeFrom, classOf}
+use Rattle.classes.proofs.Classes.{class-low, class-char}
 
 -- The segment that a lead stands for: a class, and 0 for all that `parseMark` decides.
 unfoldable pub segmentBy : ℕ → Char → Text → Segment

@@ -5,26 +5,14 @@ ghost use Prim.Native.Nat.{_+_, _<_};
 ghost use lib.ListN.{length};
 ghost use Rattle.characters.specs.Utf8.{charsAt};
 ghost use Rattle.rules.specs.Lexer.{segment};
-ghost use Rattle.words.specs.Words.{isWordClass, beginsWord, Lent, Begun, WordAt};
-
-pub mod class; // class.rt: the classes of the ASCII characters
-pub mod number; // number.rt: numbers
-pub mod name; // name.rt: names
-pub mod keyword; // keyword.rt: the kinds of names
-pub mod mark; // mark.rt: delimiters and marks
-
-// The end of a number, and whether it is a float.
-pub struct Numeral {
-    pub end: usize,
-    pub float: bool,
-}
-
-// A word: its kind, how many characters it has, and how many characters behind its start its span ends.
-pub struct Word {
-    pub kind: u8,
-    pub length: usize,
-    pub extent: usize,
-}
+ghost use Rattle.lexemes.specs.Words.{WordAt};
+ghost use Rattle.words.specs.Words.{isWordClass, beginsWord, Lent, Begun};
+use classes::ClassTable;
+use keyword_tables::KeywordTable;
+use keyword_tables::SlotTable;
+use lexemes::Word;
+use marks::MarkTable;
+use rules::kinds;
 
 // Whether a word begins with the character at a place, of the class that is told, with which one can begin.
 pub fn begins_word(text: &[u8], at: usize, class: u8) -> bool
@@ -32,11 +20,11 @@ pub fn begins_word(text: &[u8], at: usize, class: u8) -> bool
     requires { ⌜ isWordClass class ≡ true ⌝ }
     ensures { λ r. ⌜ r ≡ beginsWord class (charsAt (now (text .entry)) (at + 1)) ⌝ }
 {
-    if class == class::DOLLAR {
-        return !bridge::is_at(text, at + 1, 123);
+    if class == classes::DOLLAR {
+        return !bridge::is_at(text, at + 1, b'{');
     }
-    if class == class::SLASH {
-        let comment = bridge::is_at(text, at + 1, 47) | bridge::is_at(text, at + 1, 42);
+    if class == classes::SLASH {
+        let comment = bridge::is_at(text, at + 1, b'/') | bridge::is_at(text, at + 1, b'*');
         return !comment;
     }
     true
@@ -44,10 +32,10 @@ pub fn begins_word(text: &[u8], at: usize, class: u8) -> bool
 
 // The word at a place, of the class that is told. The tables are those of class_table, mark_table, slot_table and keyword_table.
 pub fn word_at(
-    classes: &[u8; 128],
-    marks: &[[u8; 12]; 25],
-    slots: &[u8; 256],
-    keywords: &[[u8; 11]; 60],
+    classes: &ClassTable,
+    marks: &MarkTable,
+    slots: &SlotTable,
+    keywords: &KeywordTable,
     text: &[u8],
     at: usize,
     class: u8,
@@ -56,18 +44,18 @@ pub fn word_at(
     requires { ⌜ Begun (now text) at class ⌝ }
     ensures { λ r. ⌜ WordAt (now (text .entry)) at (segment (charsAt (now (text .entry)) at)) (r .kind) (r .length) (r .extent) ⌝ }
 {
-    if class == class::LETTER {
-        return name::name_at(slots, keywords, text, at);
+    if class == classes::LETTER {
+        return names::name_at(slots, keywords, text, at);
     }
-    if class == class::DIGIT {
-        return number::numeral_at(text, at);
+    if class == classes::DIGIT {
+        return numbers::numeral_at(text, at);
     }
-    if class == class::DOLLAR {
+    if class == classes::DOLLAR {
         return Word {
-            kind: 5,
+            kind: kinds::IDENT,
             length: 1,
             extent: 0,
         };
     }
-    mark::mark_at(classes, marks, text, at, class)
+    marks::mark_at(classes, marks, text, at, class)
 }

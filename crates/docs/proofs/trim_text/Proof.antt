@@ -1,6 +1,6 @@
 -- `docs::trim_text` meets its contract. Assumes nothing.
 use borrow.Author.Needs.{needs}
-use Rattle.docs.proofs.Places.{part-trim}
+use Rattle.doc_lines.proofs.Places.{part-trim}
 use Rattle.docs.proofs.Cleaning.{part-written}
 use Rattle.docs.proofs.trim_text.Statement.{statement}
 use Rattle.docs.proofs.trim_text.Tie as tie

@@ -5,8 +5,8 @@ use mathlib.Core.List.{[], _∷_}
 use Rattle.cursor.specs.Strings.{Unit as StringUnit}
 use Rattle.characters.specs.Utf8.{charsAt}
 use Rattle.bridge.specs.Bridge.{Reach}
-use Rattle.strings.specs.Units.{UnitAt}
-use Rattle.strings.proofs.Digits.{value-some, value-none}
+use Rattle.string_units.specs.Units.{UnitAt}
+use Rattle.escapes.proofs.Digits.{value-some, value-none}
 use Rattle.letters.proofs.LetterLaws.{letter-unicode, letter-itself, letter-escape}
 use borrow.Author.Needs.{needs}
 use Rattle.letters.proofs.escape.Statement.{statement}

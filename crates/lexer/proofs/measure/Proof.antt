@@ -1,6 +1,7 @@
 -- `measure` meets its contract. Assumes nothing.
 use mathlib.Core.Path.{sym, _∙_}
-use Rattle.lexer.proofs.Questions.{yes-accepted, measure-no, measure-yes}
+use Rattle.questions.proofs.Questions.{yes-accepted}
+use Rattle.lexer.proofs.Answers.{measure-no, measure-yes}
 use borrow.Author.Needs.{needs}
 use Rattle.lexer.proofs.measure.Statement.{statement}
 use Rattle.lexer.proofs.measure.Tie as tie

@@ -1,6 +1,7 @@
 -- `tokenize` meets its contract: by the questions one after another. Assumes nothing.
 use mathlib.Core.Path.{sym, _∙_}
-use Rattle.lexer.proofs.Questions.{yes-accepted, tokenize-no, tokenize-full, tokenize-yes, tokenize-counted, roomy-yes, mark-fits, after-size, after-low}
+use Rattle.questions.proofs.Questions.{yes-accepted}
+use Rattle.lexer.proofs.Answers.{tokenize-no, tokenize-full, tokenize-yes, tokenize-counted, roomy-yes, mark-fits, after-size, after-low}
 use borrow.Author.Needs.{needs}
 use Rattle.lexer.proofs.tokenize.Statement.{statement}
 use Rattle.lexer.proofs.tokenize.Tie as tie

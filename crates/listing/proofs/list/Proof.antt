@@ -4,17 +4,17 @@ use borrow.Author.Needs.{needs}
 use Rattle.listing.proofs.list.Statement.{statement}
 use Rattle.listing.proofs.list.Tie as tie
 
-slice-aggregate-put-part : tie.Need-slice-aggregate-put-part
-slice-aggregate-put-part c = search needs
+slice-aggregate-put-word : tie.Need-slice-aggregate-put-word
+slice-aggregate-put-word c = search needs
 
-put-part-requires : tie.Need-put-part-requires
-put-part-requires c κs = search needs
+put-word-requires : tie.Need-put-word-requires
+put-word-requires c κs = search needs
 
 same-length : tie.Need-same-length
 same-length c = search needs
 
 returns : tie.Need-returns
-returns c = long-listed _ _ _ _ (c .before .before .before .before .before .if1 .taken) (c .before .before .put-part .ensures)
+returns c = long-listed _ _ _ _ (c .before .before .before .before .before .if1 .taken) (c .before .before .put-word .ensures)
 
 token-buffer-requires : tie.Need-token-buffer-requires
 token-buffer-requires c κs = search needs
@@ -74,8 +74,8 @@ pub list-spec : {M : Type 1} → statement M
 list-spec =
     tie.close
     (tie.spec
-    slice-aggregate-put-part
-    put-part-requires
+    slice-aggregate-put-word
+    put-word-requires
     same-length
     returns
     token-buffer-requires

@@ -2,11 +2,9 @@
 -- else it is made in a small buffer, whose front is copied as far as it fits. Assumes nothing.
 use mathlib.Core.Path.{sym, _∙_}
 use native.Mathlib.Omega.{arith}
-use lib.ListN.{replicate}
 use borrow.Author.Needs.{needs}
-use Rattle.characters.specs.Utf8.{encodeChar}
 use Rattle.characters.proofs.Widths.{width-bounds, char-length}
-use Rattle.output.proofs.Buffers.{whole-put, none-put, cut-put, same-size}
+use Rattle.output.proofs.Buffers.{whole-put, none-put, cut-put}
 use Rattle.output.proofs.put_char.Statement.{statement}
 use Rattle.output.proofs.put_char.Tie as tie
 
@@ -14,59 +12,43 @@ width-of-requires : tie.Need-width-of-requires
 width-of-requires c κs = search needs
 
 add-if1 : tie.Need-add-if1
-add-if1 c =
-    let a = c .before .before .args in
-    omega (arith, c .width-of .ensures, width-bounds (a .c))
+add-if1 c = omega (arith, width-bounds (c .before .before .args .c))
 
 put-char-requires : tie.Need-put-char-requires
-put-char-requires c κs = (c .before .before .before .before .pre .0, omega (arith, c .before .before .width-of .ensures, c .before .if1 .taken))
+put-char-requires c κs = omega arith
 
 same-length : tie.Need-same-length
 same-length c = search needs
 
 returns : tie.Need-returns
-returns c =
-    let a = c .before .before .before .before .before .before .before .args in
-    let p = c .before .before .put-char .ensures in
-    whole-put _ _ _ _ _ _ (char-length (a .c)) (p .0) (p .1)
+returns c = let p = c .before .before .put-char .ensures in whole-put _ _ _ _ _ _ (char-length _) (p .0) (p .1)
 
 add-result : tie.Need-add-result
-add-result c =
-    let a = c .before .before .before .before .args in
-    omega (arith, c .before .before .width-of .ensures, width-bounds (a .c))
+add-result c = omega (arith, width-bounds (c .before .before .before .before .args .c))
 
 returns-2 : tie.Need-returns-2
-returns-2 c =
-    let a = c .before .before .before .before .args in
-    none-put _ _ _ _ (char-length (a .c) ∙ sym (c .before .before .width-of .ensures)) (c .if2 .taken)
+returns-2 c = none-put _ _ _ _ (char-length _ ∙ sym (c .before .before .width-of .ensures)) (c .if2 .taken)
 
 slice-aggregate-put-char : tie.Need-slice-aggregate-put-char
 slice-aggregate-put-char c = search needs
 
 put-char-requires-2 : tie.Need-put-char-requires-2
-put-char-requires-2 c κs =
-    (c .before .before .before .before .before .pre .0, omega (arith, width-bounds (c .before .before .before .before .before .args .c)))
+put-char-requires-2 c κs = omega (arith, width-bounds (c .before .before .before .before .before .args .c))
 
 slice-aggregate-put-part : tie.Need-slice-aggregate-put-part
 slice-aggregate-put-part c = search needs
 
 put-part-requires : tie.Need-put-part-requires
-put-part-requires c κs =
-    let a = c .before .before .before .before .before .before .before .before .before .args in
-    let n = c .before .before .before .before .before .before .before .width-of .ensures in
-    let s = same-size _ (replicate 4 0) 0 (encodeChar (a .c)) (c .before .before .before .put-char2 .ensures .1) in
-    omega (arith, width-bounds (a .c))
+put-part-requires c κs = omega (arith, width-bounds (c .before .before .before .before .before .before .before .before .before .args .c))
 
 same-length-2 : tie.Need-same-length-2
 same-length-2 c = search needs
 
 returns-3 : tie.Need-returns-3
 returns-3 c =
-    let a = c .before .before .before .before .before .before .before .before .before .before .before .before .args in
     let n = c .before .before .before .before .before .before .before .before .before .before .width-of .ensures in
-    let m = width-bounds (a .c) in
-    cut-put _ _ _ (replicate 4 0) _ _ _ _ (char-length (a .c) ∙ sym n) (omega (arith, m))
-    (c .before .before .before .before .before .before .put-char2 .ensures .1) (c .before .before .put-part .ensures)
+    let m = width-bounds (c .before .before .before .before .before .before .before .before .before .before .before .before .args .c) in
+    cut-put _ _ _ _ _ _ _ _ (char-length _ ∙ sym n) (omega (arith, m)) (c .before .before .before .before .before .before .put-char2 .ensures .1) (c .before .before .put-part .ensures)
 
 pub put-char-spec : {M : Type 1} → statement M
 put-char-spec =

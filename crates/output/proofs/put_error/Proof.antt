@@ -2,12 +2,10 @@
 -- else it is made in a small buffer, whose front is copied as far as it fits. Assumes nothing.
 use mathlib.Core.Path.{sym, _∙_}
 use native.Mathlib.Omega.{arith}
-use lib.ListN.{replicate}
 use borrow.Author.Needs.{needs}
-use Rattle.records.specs.Records.{errorRecord}
 use Rattle.records.proofs.Bytes.{length-error}
 use Rattle.output.proofs.Lengths.{error-bounds}
-use Rattle.output.proofs.Buffers.{whole-put, none-put, cut-put, same-size}
+use Rattle.output.proofs.Buffers.{whole-put, none-put, cut-put}
 use Rattle.output.proofs.put_error.Statement.{statement}
 use Rattle.output.proofs.put_error.Tie as tie
 
@@ -15,31 +13,22 @@ error-length-requires : tie.Need-error-length-requires
 error-length-requires c κs = search needs
 
 add-if1 : tie.Need-add-if1
-add-if1 c =
-    let a = c .before .before .args in
-    omega (arith, c .error-length .ensures, error-bounds (a .kind))
+add-if1 c = omega (arith, error-bounds (c .before .before .args .kind))
 
 put-error-requires : tie.Need-put-error-requires
-put-error-requires c κs = omega (arith, c .before .before .error-length .ensures, c .before .if1 .taken)
+put-error-requires c κs = search needs
 
 same-length : tie.Need-same-length
 same-length c = search needs
 
 returns : tie.Need-returns
-returns c =
-    let a = c .before .before .before .before .before .before .before .args in
-    let p = c .before .before .put-error .ensures in
-    whole-put _ _ _ _ _ _ (length-error (a .kind) (a .span) (a .code)) (p .0) (p .1)
+returns c = let p = c .before .before .put-error .ensures in whole-put _ _ _ _ _ _ (length-error _ _ _) (p .0) (p .1)
 
 add-result : tie.Need-add-result
-add-result c =
-    let a = c .before .before .before .before .args in
-    omega (arith, c .before .before .error-length .ensures, error-bounds (a .kind))
+add-result c = omega (arith, error-bounds (c .before .before .before .before .args .kind))
 
 returns-2 : tie.Need-returns-2
-returns-2 c =
-    let a = c .before .before .before .before .args in
-    none-put _ _ _ _ (length-error (a .kind) (a .span) (a .code) ∙ sym (c .before .before .error-length .ensures)) (c .if2 .taken)
+returns-2 c = none-put _ _ _ _ (length-error _ _ _ ∙ sym (c .before .before .error-length .ensures)) (c .if2 .taken)
 
 slice-aggregate-put-error : tie.Need-slice-aggregate-put-error
 slice-aggregate-put-error c = search needs
@@ -51,23 +40,16 @@ slice-aggregate-put-part : tie.Need-slice-aggregate-put-part
 slice-aggregate-put-part c = search needs
 
 put-part-requires : tie.Need-put-part-requires
-put-part-requires c κs =
-    let a = c .before .before .before .before .before .before .before .before .before .args in
-    let n = c .before .before .before .before .before .before .before .error-length .ensures in
-    let v = errorRecord (a .kind) (a .span) (a .code) in
-    let s = same-size _ (replicate 29 0) 0 v (c .before .before .before .put-error2 .ensures .1) in
-    omega (arith, error-bounds (a .kind))
+put-part-requires c κs = omega (arith, error-bounds (c .before .before .before .before .before .before .before .before .before .args .kind))
 
 same-length-2 : tie.Need-same-length-2
 same-length-2 c = search needs
 
 returns-3 : tie.Need-returns-3
 returns-3 c =
-    let a = c .before .before .before .before .before .before .before .before .before .before .before .before .args in
     let n = c .before .before .before .before .before .before .before .before .before .before .error-length .ensures in
-    let m = error-bounds (a .kind) in
-    cut-put _ _ _ (replicate 29 0) _ _ _ _ (length-error (a .kind) (a .span) (a .code) ∙ sym n) (omega (arith, m))
-    (c .before .before .before .before .before .before .put-error2 .ensures .1) (c .before .before .put-part .ensures)
+    let m = error-bounds (c .before .before .before .before .before .before .before .before .before .before .before .before .args .kind) in
+    cut-put _ _ _ _ _ _ _ _ (length-error _ _ _ ∙ sym n) (omega (arith, m)) (c .before .before .before .before .before .before .put-error2 .ensures .1) (c .before .before .put-part .ensures)
 
 pub put-error-spec : {M : Type 1} → statement M
 put-error-spec =

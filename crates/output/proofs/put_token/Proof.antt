@@ -2,12 +2,10 @@
 -- else it is made in a small buffer, whose front is copied as far as it fits. Assumes nothing.
 use mathlib.Core.Path.{sym, _∙_}
 use native.Mathlib.Omega.{arith}
-use lib.ListN.{replicate}
 use borrow.Author.Needs.{needs}
-use Rattle.records.specs.Records.{tokenRecord}
 use Rattle.records.proofs.Bytes.{length-token}
 use Rattle.output.proofs.Lengths.{record-bounds}
-use Rattle.output.proofs.Buffers.{whole-put, none-put, cut-put, same-size}
+use Rattle.output.proofs.Buffers.{whole-put, none-put, cut-put}
 use Rattle.output.proofs.put_token.Statement.{statement}
 use Rattle.output.proofs.put_token.Tie as tie
 
@@ -15,31 +13,22 @@ record-length-requires : tie.Need-record-length-requires
 record-length-requires c κs = search needs
 
 add-if1 : tie.Need-add-if1
-add-if1 c =
-    let a = c .before .before .args in
-    omega (arith, c .record-length .ensures, record-bounds (a .kind))
+add-if1 c = omega (arith, record-bounds (c .before .before .args .kind))
 
 put-token-requires : tie.Need-put-token-requires
-put-token-requires c κs = omega (arith, c .before .before .record-length .ensures, c .before .if1 .taken)
+put-token-requires c κs = search needs
 
 same-length : tie.Need-same-length
 same-length c = search needs
 
 returns : tie.Need-returns
-returns c =
-    let a = c .before .before .before .before .before .before .before .args in
-    let p = c .before .before .put-token .ensures in
-    whole-put _ _ _ _ _ _ (length-token (a .kind) (a .span) (a .offset) (a .len)) (p .0) (p .1)
+returns c = let p = c .before .before .put-token .ensures in whole-put _ _ _ _ _ _ (length-token _ _ _ _) (p .0) (p .1)
 
 add-result : tie.Need-add-result
-add-result c =
-    let a = c .before .before .before .before .args in
-    omega (arith, c .before .before .record-length .ensures, record-bounds (a .kind))
+add-result c = omega (arith, record-bounds (c .before .before .before .before .args .kind))
 
 returns-2 : tie.Need-returns-2
-returns-2 c =
-    let a = c .before .before .before .before .args in
-    none-put _ _ _ _ (length-token (a .kind) (a .span) (a .offset) (a .len) ∙ sym (c .before .before .record-length .ensures)) (c .if2 .taken)
+returns-2 c = none-put _ _ _ _ (length-token _ _ _ _ ∙ sym (c .before .before .record-length .ensures)) (c .if2 .taken)
 
 slice-aggregate-put-token : tie.Need-slice-aggregate-put-token
 slice-aggregate-put-token c = search needs
@@ -51,23 +40,16 @@ slice-aggregate-put-part : tie.Need-slice-aggregate-put-part
 slice-aggregate-put-part c = search needs
 
 put-part-requires : tie.Need-put-part-requires
-put-part-requires c κs =
-    let a = c .before .before .before .before .before .before .before .before .before .args in
-    let n = c .before .before .before .before .before .before .before .record-length .ensures in
-    let v = tokenRecord (a .kind) (a .span) (a .offset) (a .len) in
-    let s = same-size _ (replicate 33 0) 0 v (c .before .before .before .put-token2 .ensures .1) in
-    omega (arith, record-bounds (a .kind))
+put-part-requires c κs = omega (arith, record-bounds (c .before .before .before .before .before .before .before .before .before .args .kind))
 
 same-length-2 : tie.Need-same-length-2
 same-length-2 c = search needs
 
 returns-3 : tie.Need-returns-3
 returns-3 c =
-    let a = c .before .before .before .before .before .before .before .before .before .before .before .before .args in
     let n = c .before .before .before .before .before .before .before .before .before .before .record-length .ensures in
-    let m = record-bounds (a .kind) in
-    cut-put _ _ _ (replicate 33 0) _ _ _ _ (length-token (a .kind) (a .span) (a .offset) (a .len) ∙ sym n) (omega (arith, m))
-    (c .before .before .before .before .before .before .put-token2 .ensures .1) (c .before .before .put-part .ensures)
+    let m = record-bounds (c .before .before .before .before .before .before .before .before .before .before .before .before .args .kind) in
+    cut-put _ _ _ _ _ _ _ _ (length-token _ _ _ _ ∙ sym n) (omega (arith, m)) (c .before .before .before .before .before .before .put-token2 .ensures .1) (c .before .before .put-part .ensures)
 
 pub put-token-spec : {M : Type 1} → statement M
 put-token-spec =

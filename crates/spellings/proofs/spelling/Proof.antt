@@ -1,5 +1,5 @@
 use mathlib.Core.Path.{refl}
-use Rattle.records.specs.Spelling.{spellings, padded, joined, spellingTable}
+use Rattle.spellings.specs.Spelling.{spellings, padded, joined, spellingTable}
 use borrow.Author.Needs.{needs}
 use Rattle.spellings.proofs.spelling.Statement.{statement}
 use Rattle.spellings.proofs.spelling.Tie as tie

@@ -1,5 +1,5 @@
 -- `walks::walk::to_pair` meets its contract. Whatever ends the walk from where the loop stands ends it from its beginning. Assumes nothing.
-use mathlib.Core.Path.{ap, subst}
+use mathlib.Core.Path.{subst}
 use mathlib.Core.List.{[], _∷_}
 use Prim.Native.Nat.{_-_}
 use lib.ListN.{length}

@@ -1,5 +1,5 @@
 -- `walks::walk::to_quotes` meets its contract. As `to_pair`. Assumes nothing.
-use mathlib.Core.Path.{ap, subst}
+use mathlib.Core.Path.{subst}
 use mathlib.Core.List.{[], _∷_}
 use Prim.Native.Nat.{_-_}
 use lib.ListN.{length}

@@ -1,0 +1,21 @@
+-- What the calls of the host answer, as numbers. The result is 0 for a yes, else the number of the refusal; a refusal sets the first
+-- slot to its figure, and the other slots keep.
+use Prim.Native.Nat.{ℕ}
+use mathlib.Core.Bool.{Bool}
+use mathlib.Core.List.{List}
+use lib.ListN.{set}
+use Rattle.characters.specs.Choice.{if_then_else_}
+use Rattle.records.specs.Answers.{Answer, got, refused}
+
+unfoldable pub numberOf : {A : Type 0} → Answer A → ℕ
+numberOf (got a) = 0
+numberOf (refused number figure) = number
+
+-- The slots after an answer: `values` for a yes.
+unfoldable pub slotsAfter : {A : Type 0} → (A → List ℕ) → Answer A → List ℕ → List ℕ
+slotsAfter values (got a) old = values a
+slotsAfter values (refused number figure) old = set old 0 figure
+
+-- 1 for true, 0 for false.
+unfoldable pub truth : Bool → ℕ
+truth b = if b then 1 else 0

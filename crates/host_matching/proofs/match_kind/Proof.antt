@@ -1,0 +1,68 @@
+-- `match_kind` meets its contract.
+use mathlib.Core.Path.{refl, sym, ap, _∙_}
+use Rattle.host_answers.specs.Answers.{numberOf, slotsAfter}
+use Rattle.host_matching.specs.Matching.{matchedValues}
+use Rattle.records.specs.Answers.{ofMatched}
+use borrow.Author.Needs.{needs}
+use borrow.Author.Tests.{not-true, not-false}
+use Rattle.host_matching.proofs.Unknown.{kind-low, match-unknown}
+use Rattle.host_matching.proofs.match_kind.Statement.{statement}
+use Rattle.host_matching.proofs.match_kind.Tie as tie
+
+is-kind-requires : tie.Need-is-kind-requires
+is-kind-requires c κs = search needs
+
+element-write-answer : tie.Need-element-write-answer
+element-write-answer c = search needs
+
+-- A kind over 125.
+returns : tie.Need-returns
+unfolding numberOf slotsAfter
+returns c =
+    let a = c .before .before .before .args in
+    rw (match-unknown _ (a .place) (a .kind) (sym (c .before .is-kind .ensures) ∙ not-true _ (c .if1 .taken))) (refl, refl)
+
+cast-match-kind : tie.Need-cast-match-kind
+cast-match-kind c =
+    let a = c .before .before .before .args in
+    let h = kind-low (a .kind) (sym (c .before .is-kind .ensures) ∙ not-false _ (c .if1 .left)) in
+    search needs
+
+match-kind-requires : tie.Need-match-kind-requires
+match-kind-requires c κs = search needs
+
+enum-known-n : tie.Need-enum-known-n
+enum-known-n c = search needs
+
+truth-of-requires : tie.Need-truth-of-requires
+truth-of-requires c κs = search needs
+
+enum-known-n-2 : tie.Need-enum-known-n-2
+enum-known-n-2 c = search needs
+
+element-write-answer-2 : tie.Need-element-write-answer-2
+element-write-answer-2 c = search needs
+
+returns-2 : tie.Need-returns-2
+unfolding numberOf slotsAfter matchedValues
+returns-2 c = rw (sym (c .before .before .before .before .before .match-kind .ensures) ∙ ap ofMatched (c .before .before .before .n .given .1)) (refl, rw (c .before .truth-of .ensures))
+
+returns-3 : tie.Need-returns-3
+unfolding numberOf slotsAfter
+returns-3 c = rw (sym (c .before .before .before .match-kind .ensures) ∙ ap ofMatched (c .before .n2 .given .1)) (refl, refl)
+
+pub match-kind-spec : {M : Type 1} → statement M
+match-kind-spec =
+    tie.close
+    (tie.spec
+    is-kind-requires
+    element-write-answer
+    returns
+    cast-match-kind
+    match-kind-requires
+    enum-known-n
+    truth-of-requires
+    enum-known-n-2
+    element-write-answer-2
+    returns-2
+    returns-3)

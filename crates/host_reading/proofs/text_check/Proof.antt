@@ -1,0 +1,33 @@
+-- `text_check` meets its contract.
+use mathlib.Core.Path.{refl, sym, ap, _∙_}
+use Rattle.host_answers.specs.Answers.{numberOf}
+use Rattle.host_reading.specs.Records.{checkAfter}
+use Rattle.records.specs.Answers.{ofTextCheck}
+use borrow.Author.Needs.{needs}
+use Rattle.host_reading.proofs.text_check.Statement.{statement}
+use Rattle.host_reading.proofs.text_check.Tie as tie
+
+text-check-requires : tie.Need-text-check-requires
+text-check-requires c κs = search needs
+
+enum-told : tie.Need-enum-told
+enum-told c = search needs
+
+enum-known-c : tie.Need-enum-known-c
+enum-known-c c = search needs
+
+element-write-answer : tie.Need-element-write-answer
+element-write-answer c = search needs
+
+returns : tie.Need-returns
+unfolding numberOf checkAfter
+returns c = rw (sym (c .before .before .text-check .ensures) ∙ ap ofTextCheck (c .enum-told .given .1)) (refl, refl)
+
+returns-2 : tie.Need-returns-2
+unfolding numberOf checkAfter
+returns-2 c = rw (sym (c .before .before .before .text-check .ensures) ∙ ap ofTextCheck (c .before .c .given .1)) (refl, refl)
+
+pub text-check-spec : {M : Type 1} → statement M
+text-check-spec =
+    tie.close
+    (tie.spec text-check-requires enum-told enum-known-c element-write-answer returns returns-2)

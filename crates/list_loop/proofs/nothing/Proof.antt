@@ -1,0 +1,10 @@
+-- `nothing` meets its contract. Assumes nothing.
+use mathlib.Core.Path.{refl}
+use Rattle.list_loop.proofs.nothing.Statement.{statement}
+use Rattle.list_loop.proofs.nothing.Tie as tie
+
+returns : tie.Need-returns
+returns c = refl
+
+pub nothing-spec : {M : Type 1} → statement M
+nothing-spec = tie.close (tie.spec returns)

@@ -1,0 +1,4 @@
+pub mod Decimals
+pub mod Lengths
+pub mod Rooms
+pub mod Hex

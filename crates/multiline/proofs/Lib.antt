@@ -1,0 +1,2 @@
+pub mod BeginsNothing
+pub mod Tokens

@@ -1,0 +1,20 @@
+use mathlib.Core.Path.{sym, _∙_}
+use Rattle.record_texts.proofs.TextLaws.{home-made, home-script}
+use borrow.Author.Needs.{needs}
+use Rattle.record_texts.proofs.home.Statement.{statement}
+use Rattle.record_texts.proofs.home.Tie as tie
+
+is-made-requires : tie.Need-is-made-requires
+is-made-requires c κs = search needs
+
+returns : tie.Need-returns
+returns c = sym (home-made _ _ _ (sym (c .before .is-made .ensures) ∙ c .if1 .taken))
+
+after-mark-requires : tie.Need-after-mark-requires
+after-mark-requires c κs = search needs
+
+returns-2 : tie.Need-returns-2
+returns-2 c = c .after-mark .ensures ∙ sym (home-script _ _ _ (sym (c .before .before .is-made .ensures) ∙ c .before .if1 .left))
+
+pub home-spec : {M : Type 1} → statement M
+home-spec = tie.close (tie.spec is-made-requires returns after-mark-requires returns-2)

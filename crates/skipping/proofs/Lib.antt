@@ -1,0 +1,4 @@
+pub mod Slashes
+pub mod Stops
+pub mod Skips
+pub mod Comments

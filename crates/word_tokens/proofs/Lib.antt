@@ -1,0 +1,4 @@
+pub mod Plain
+pub mod Words
+pub mod Begun
+pub mod Others
