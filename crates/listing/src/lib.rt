@@ -9,6 +9,8 @@ use lexer::Answer;
 use listing_fields::put_word;
 use listing_lines::put_refused;
 use listing_reading::put_answer;
+use records::fields::LONGEST_ERROR;
+use records::fields::LONGEST_TOKEN;
 
 // The bytes that a script may have at most to be listed.
 pub const LISTED: usize = 1024;
@@ -16,13 +18,13 @@ pub const LISTED: usize = 1024;
 // The bytes of the longest listing at most.
 pub const LONGEST: usize = 325 * LISTED + 162;
 
-// What the tokens, the texts and the errors of a listed script take at most: LISTED + 1 records of 33 bytes, two bytes of text for
-// each byte and two more, LISTED records of 29 bytes.
-const TOKENS: usize = 33 * (LISTED + 1);
+// What the tokens, the texts and the errors of a listed script take at most: LISTED + 1 records, two bytes of text for each byte and two
+// more, LISTED records.
+const TOKENS: usize = LONGEST_TOKEN * (LISTED + 1);
 
 const TEXTS: usize = 2 * LISTED + 2;
 
-const ERRORS: usize = 29 * LISTED;
+const ERRORS: usize = LONGEST_ERROR * LISTED;
 
 // The contracts of the buffers give only the length.
 fn token_buffer() -> [u8; TOKENS]
