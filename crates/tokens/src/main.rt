@@ -2,7 +2,14 @@
 ghost use mathlib.Core.Path.{_≡_};
 ghost use Prim.Native.Nat.{_≤_};
 ghost use lib.ListN.{length};
-ghost use Rattle.listing.specs.Listing.{listing, LONGEST};
+ghost use Rattle.input.specs.Input.{InputWithin};
+ghost use Rattle.listing.specs.Listing.{LONGEST};
+ghost use Rattle.tokens.specs.Written.{written};
+use input::Input;
+
+const STANDARD_INPUT: i32 = 0;
+
+const STANDARD_OUTPUT: i32 = 1;
 
 // Room for the longest listing. The contract gives only the length.
 fn listing_buffer() -> [u8; listing::LONGEST]
@@ -11,20 +18,25 @@ fn listing_buffer() -> [u8; listing::LONGEST]
     [0; listing::LONGEST]
 }
 
-// The listing of a script, in a buffer that holds every listing.
-fn listed<'a>(script: &[u8], out: &'a mut [u8]) -> &'a mut [u8]
+// The listing of the bytes that were read, in a buffer that holds every listing; nothing if a read failed.
+fn listed<'a>(buf: &[u8], got: Input, out: &'a mut [u8]) -> &'a mut [u8]
+    requires { ⌜ InputWithin got (now buf) ⌝ }
     requires { ⌜ LONGEST ≤ length (now out) ⌝ }
-    ensures { λ r. ⌜ now r ≡ listing (now (script .entry)) ⌝ }
+    ensures { λ r. ⌜ now r ≡ written got (now (buf .entry)) ⌝ }
 {
-    let k = listing::list(script, out);
+    let k = match got {
+        Input::Read(n) => listing::list(&buf[..n], out),
+        Input::Failed => 0,
+    };
     &mut out[..k]
 }
 
-// One byte more than a script may have is read, so that a longer input is told from one that fits.
+// One byte more than a script may have is read, so that a longer input is told from one that fits. A program has no exit status to tell
+// a failed write by.
 fn main() {
-    let mut input = [0u8; listing::LISTED + 1];
-    let n = io::read_full(0, &mut input);
+    let mut buf = [0u8; listing::LISTED + 1];
+    let got = input::read_input(STANDARD_INPUT, &mut buf);
     let mut out = listing_buffer();
-    let lines = listed(&input[..n], &mut out);
-    io::write_all(1, lines);
+    let lines = listed(&buf, got, &mut out);
+    io::write_all(STANDARD_OUTPUT, lines);
 }
