@@ -6,10 +6,8 @@ ghost use Rattle.input.specs.Input.{InputWithin};
 ghost use Rattle.listing.specs.Listing.{LONGEST};
 ghost use Rattle.tokens.specs.Written.{written};
 use input::Input;
-
-const STANDARD_INPUT: i32 = 0;
-
-const STANDARD_OUTPUT: i32 = 1;
+use libc::STDIN_FILENO;
+use libc::STDOUT_FILENO;
 
 // Room for the longest listing. The contract gives only the length.
 fn listing_buffer() -> [u8; listing::LONGEST]
@@ -24,19 +22,19 @@ fn listed<'a>(buf: &[u8], got: Input, out: &'a mut [u8]) -> &'a mut [u8]
     requires { ⌜ LONGEST ≤ length (now out) ⌝ }
     ensures { λ r. ⌜ now r ≡ written got (now (buf .entry)) ⌝ }
 {
-    let k = match got {
-        Input::Read(n) => listing::list(&buf[..n], out),
-        Input::Failed => 0,
+    let Input::Read(n) = got else {
+        return &mut out[..0];
     };
+    let k = listing::list(&buf[..n], out);
     &mut out[..k]
 }
 
-// One byte more than a script may have is read, so that a longer input is told from one that fits. A program has no exit status to tell
-// a failed write by.
+// One byte more than a script may have is read, so that a longer input is told from one that fits. Nothing can tell a write that fails:
+// a program has no exit status.
 fn main() {
     let mut buf = [0u8; listing::LISTED + 1];
-    let got = input::read_input(STANDARD_INPUT, &mut buf);
+    let got = input::read_input(STDIN_FILENO, &mut buf);
     let mut out = listing_buffer();
     let lines = listed(&buf, got, &mut out);
-    io::write_all(STANDARD_OUTPUT, lines);
+    io::write_all(STDOUT_FILENO, lines);
 }
