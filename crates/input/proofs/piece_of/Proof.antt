@@ -16,8 +16,8 @@ count-requires c κs = search needs
 
 returns-3 : tie.Need-returns-3
 returns-3 c =
-    let given = c .before .before .before .before in
-    bytes-piece _ _ _ _ (toZ-ofZ (given .fits .got)) (c .before .before .if1 .left) (c .before .if2 .left) (c .count .ensures .1)
+    let entry = c .before .before .before .before in
+    bytes-piece _ _ _ _ (toZ-ofZ (entry .fits .got)) (c .before .before .if1 .left) (c .before .if2 .left) (c .count .ensures .1)
 
 pub piece-of-spec : {M : Type 1} → statement M
 piece-of-spec = tie.close (tie.spec returns returns-2 count-requires returns-3)

@@ -46,7 +46,9 @@ enum-told : tie.Need-enum-told Inv-loop μ-loop
 enum-told c = search needs
 
 same-length : tie.Need-same-length Inv-loop μ-loop
-same-length c = c .before .before .before .before .read-piece .kept .1 .0 ∙ c .before .before .before .before .before .before .before .loop .inv .1
+same-length c =
+    let turn = c .before .before .before .before in
+    turn .read-piece .kept .1 .0 ∙ turn .before .before .before .loop .inv .1
 
 returns : tie.Need-returns Inv-loop μ-loop
 returns c =
@@ -58,7 +60,9 @@ enum-told-2 : tie.Need-enum-told-2 Inv-loop μ-loop
 enum-told-2 c = search needs
 
 same-length-2 : tie.Need-same-length-2 Inv-loop μ-loop
-same-length-2 c = c .before .before .before .before .read-piece .kept .1 .0 ∙ c .before .before .before .before .before .before .before .loop .inv .1
+same-length-2 c =
+    let turn = c .before .before .before .before in
+    turn .read-piece .kept .1 .0 ∙ turn .before .before .before .loop .inv .1
 
 returns-2 : tie.Need-returns-2 Inv-loop μ-loop
 returns-2 c = tt

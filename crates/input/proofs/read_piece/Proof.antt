@@ -28,11 +28,13 @@ same-length c = search needs
 
 returns : tie.Need-returns
 returns c =
-    let given = c .before .before .before .before .before .before .before .before .before .before in
-    let back = c .before .rest4 .given in
-    let whole = given .args .buf .now in
+    let entry = c .before .before .before .before .before .before .before .before .before .before in
+    let at = entry .args .at in
+    let whole = entry .args .buf .now in
     let rest = c .before .before .before .before .before .before .read .last .1 .0 in
-    (piece-within whole _ _ _ _ _ (given .pre) (back .0) (back .1) (c .before .before .piece-of .ensures), take-put (given .args .at) (length whole - given .args .at) whole rest (le-of-lt (given .pre)))
+    let back = c .before .rest4 .given in
+    let inside = piece-within whole _ _ _ _ _ (entry .pre) (back .0) (back .1) (c .before .before .piece-of .ensures) in
+    (inside, take-put at (length whole - at) whole rest (le-of-lt (entry .pre)))
 
 pub read-piece-spec : {M : Type 1} → statement M
 read-piece-spec = tie.close (tie.spec sub-rest part-rest-start part-rest-end read-requires piece-of-requires same-length returns)

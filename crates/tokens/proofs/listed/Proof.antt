@@ -15,19 +15,25 @@ enum-told : tie.Need-enum-told
 enum-told c = search needs
 
 slice-aggregate-result : tie.Need-slice-aggregate-result
-slice-aggregate-result c = search needs
+slice-aggregate-result c =
+    let entry = c .before .before .before .before .before in
+    let room = entry .pre .1 in
+    sym (length-take-le _ (entry .args .out .now) (omega arith))
 
 returns : tie.Need-returns
 returns c = sym (written-failed _ _ (c .before .enum-told .given .1))
 
 slice-aggregate-list : tie.Need-slice-aggregate-list
-slice-aggregate-list c = sym (length-take-le _ _ (read-within _ _ _ (c .before .before .got .given .1) (c .before .before .before .before .before .before .pre .0)))
+slice-aggregate-list c =
+    let entry = c .before .before .before .before .before .before in
+    let inside = read-within _ _ (entry .args .buf .now) (c .before .before .got .given .1) (entry .pre .0) in
+    sym (length-take-le _ (entry .args .buf .now) (omega arith))
 
 list-requires : tie.Need-list-requires
 list-requires c κs = search needs
 
 slice-aggregate-result-2 : tie.Need-slice-aggregate-result-2
-slice-aggregate-result-2 c = sym (length-take-le _ _ (omega arith))
+slice-aggregate-result-2 c = sym (length-take-le _ (c .before .before .before .list .last .1 .0) (omega arith))
 
 returns-2 : tie.Need-returns-2
 returns-2 c =
