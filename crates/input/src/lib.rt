@@ -5,7 +5,7 @@ ghost use lib.ListN.{length, take};
 ghost use Rattle.input.specs.Input.{pieceOf, PieceWithin, InputWithin};
 
 // What one read gave.
-pub enum Piece {
+enum Piece {
     // So many bytes.
     Bytes(usize),
     End,
