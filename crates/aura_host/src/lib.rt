@@ -12,13 +12,14 @@ pub mod calls; // calls.rt: measuring and tokenising
 pub mod reading; // reading.rt: the next token, the next error, the text check
 pub mod matching; // matching.rt: consume and match
 
-// 0 where the text is UTF-8; else the number of the refusal, and the first byte of the first bad sequence in `place`.
+// 0 where the text is UTF-8, and the figure keeps; else the number of the refusal, whose figure is the first byte of the first bad
+// sequence.
 #[no_mangle]
-pub extern "C" fn aura_first_bad(text: &[u8], place: &mut u64) -> u64
+pub extern "C" fn aura_first_bad(text: &[u8], figure: &mut u64) -> u64
     ensures { λ r. ⌜ r ≡ checkNumber (now (text .entry)) (firstBad (now (text .entry))) ⌝ }
-    ensures { λ _. ⌜ now (place .exit) ≡ checkFigure (firstBad (now (text .entry))) (now (place .entry)) ⌝ }
+    ensures { λ _. ⌜ now (figure .exit) ≡ checkFigure (firstBad (now (text .entry))) (now (figure .entry)) ⌝ }
 {
-    host_characters::first_bad(text, place)
+    host_characters::first_bad(text, figure)
 }
 
 // The bytes of the byte-order mark that the text begins with: 3 or 0.

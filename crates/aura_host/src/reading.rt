@@ -3,7 +3,7 @@ ghost use mathlib.Core.Path.{_≡_};
 ghost use Rattle.record_reading.specs.Reading.{nextAt, nextErrorAt};
 ghost use Rattle.record_texts.specs.Texts.{textCheckAt};
 ghost use Rattle.host_answers.specs.Answers.{numberOf, slotsAfter};
-ghost use Rattle.host_reading.specs.Records.{tokenValues, errorValues, checkAfter};
+ghost use Rattle.host_reading.specs.Records.{tokenValues, errorValues, noValues};
 use host_reading::CHECK_SLOTS;
 use host_reading::ERROR_SLOTS;
 use host_reading::TOKEN_SLOTS;
@@ -44,7 +44,7 @@ pub extern "C" fn aura_text_check<'a>(
     answer: &mut [u64; CHECK_SLOTS],
 ) -> u64
     ensures { λ r. ⌜ r ≡ numberOf (textCheckAt (now (script .entry)) (now (texts .entry)) (now (tokens .entry)) place) ⌝ }
-    ensures { λ _. ⌜ now (answer .exit) ≡ checkAfter (textCheckAt (now (script .entry)) (now (texts .entry)) (now (tokens .entry)) place) (now (answer .entry)) ⌝ }
+    ensures { λ _. ⌜ now (answer .exit) ≡ slotsAfter noValues (textCheckAt (now (script .entry)) (now (texts .entry)) (now (tokens .entry)) place) (now (answer .entry)) ⌝ }
 {
     host_reading::text_check(script, texts, tokens, place, answer)
 }

@@ -1,9 +1,8 @@
--- What the calls of the host answer, as numbers. The result is 0 for a yes, else the number of the refusal; a refusal sets the first
--- slot to its figure, and the other slots keep.
+-- What the calls of the host answer, as numbers. The result is 0 for a yes, else the number of the refusal.
 use Prim.Native.Nat.{ℕ}
 use mathlib.Core.Bool.{Bool}
-use mathlib.Core.List.{List}
-use lib.ListN.{set}
+use mathlib.Core.List.{List, _∷_}
+use lib.ListN.{getD, set}
 use Rattle.characters.specs.Choice.{if_then_else_}
 use Rattle.records.specs.Answers.{Answer, got, refused}
 
@@ -11,9 +10,10 @@ unfoldable pub numberOf : {A : Type 0} → Answer A → ℕ
 numberOf (got a) = 0
 numberOf (refused number figure) = number
 
--- The slots after an answer: `values` for a yes.
+-- The slots after an answer. The first is the figure's: a yes keeps it and sets the others to its values, a refusal sets it and keeps
+-- the others.
 unfoldable pub slotsAfter : {A : Type 0} → (A → List ℕ) → Answer A → List ℕ → List ℕ
-slotsAfter values (got a) old = values a
+slotsAfter values (got a) old = getD old 0 0 ∷ values a
 slotsAfter values (refused number figure) old = set old 0 figure
 
 -- 1 for true, 0 for false.

@@ -4,10 +4,11 @@ ghost use Rattle.lexer.specs.Tokenize.{ofAnswer, measureAnswer};
 ghost use Rattle.host_answers.specs.Answers.{numberOf, slotsAfter};
 ghost use Rattle.host_calls.specs.Calls.{usedValues, HostTokenized};
 use host_answers::truth_of;
+use host_answers::FIGURE;
 use lexer::Answer;
 
 // The slots of an answer.
-pub const USED_SLOTS: usize = 5;
+pub const USED_SLOTS: usize = 6;
 
 // An answer as a number and slots.
 fn put_answer(a: Answer, answer: &mut [u64; USED_SLOTS]) -> u64
@@ -17,7 +18,9 @@ fn put_answer(a: Answer, answer: &mut [u64; USED_SLOTS]) -> u64
     match a {
         Answer::Done(u) => {
             let closed = truth_of(u.closed);
+            let kept = answer[FIGURE];
             *answer = [
+                kept,
                 u.tokens as u64,
                 u.texts as u64,
                 u.errors as u64,
@@ -27,7 +30,7 @@ fn put_answer(a: Answer, answer: &mut [u64; USED_SLOTS]) -> u64
             0
         }
         Answer::Refused(number, figure) => {
-            answer[0] = figure;
+            answer[FIGURE] = figure;
             number
         }
     }

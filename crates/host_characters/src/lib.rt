@@ -11,15 +11,16 @@ use characters::Checked;
 use characters::space;
 use encoding::Encoded;
 
-// 0 where the text is UTF-8; else the number of the refusal, and the first byte of the first bad sequence in `place`.
-pub fn first_bad(text: &[u8], place: &mut u64) -> u64
+// 0 where the text is UTF-8, and the figure keeps; else the number of the refusal, whose figure is the first byte of the first bad
+// sequence.
+pub fn first_bad(text: &[u8], figure: &mut u64) -> u64
     ensures { λ r. ⌜ r ≡ checkNumber (now (text .entry)) (firstBad (now (text .entry))) ⌝ }
-    ensures { λ _. ⌜ now (place .exit) ≡ checkFigure (firstBad (now (text .entry))) (now (place .entry)) ⌝ }
+    ensures { λ _. ⌜ now (figure .exit) ≡ checkFigure (firstBad (now (text .entry))) (now (figure .entry)) ⌝ }
 {
     let Checked::BadAt(at) = utf8_check::first_bad(text) else {
         return 0;
     };
-    *place = at as u64;
+    *figure = at as u64;
     utf8_check::bad_class(text, at)
 }
 

@@ -5,15 +5,16 @@ ghost use Rattle.record_reading.specs.Reading.{consumeAt, matchAt};
 ghost use Rattle.host_answers.specs.Answers.{numberOf, slotsAfter};
 ghost use Rattle.host_matching.specs.Matching.{consumedValues, matchedValues};
 use host_answers::truth_of;
+use host_answers::FIGURE;
 use records::answers::Consumed;
 use records::answers::Matched;
 use records::refusals::REFUSED_KIND;
 use rules::kinds;
 
 // The slots of an answer: for consume, for match.
-pub const CONSUMED_SLOTS: usize = 11;
+pub const CONSUMED_SLOTS: usize = 12;
 
-pub const MATCHED_SLOTS: usize = 2;
+pub const MATCHED_SLOTS: usize = 3;
 
 // The last kind of token.
 const LAST_KIND: u64 = kinds::ERROR as u64;
@@ -31,7 +32,7 @@ pub fn consume(tokens: &[u8], place: usize, kind: u64, answer: &mut [u64; CONSUM
     ensures { λ _. ⌜ now (answer .exit) ≡ slotsAfter (consumedValues (consumeAt (now (tokens .entry)) place kind .place)) (consumeAt (now (tokens .entry)) place kind .answer) (now (answer .entry)) ⌝ }
 {
     if !is_kind(kind) {
-        answer[0] = kind;
+        answer[FIGURE] = kind;
         return REFUSED_KIND;
     }
     let n = record_reading::read::consume(tokens, place, kind as u8);
@@ -39,7 +40,9 @@ pub fn consume(tokens: &[u8], place: usize, kind: u64, answer: &mut [u64; CONSUM
         Consumed::Got(r, fits, at) => {
             let s = r.span;
             let same = truth_of(fits);
+            let kept = answer[FIGURE];
             *answer = [
+                kept,
                 at as u64,
                 r.kind as u64,
                 s.start as u64,
@@ -55,7 +58,7 @@ pub fn consume(tokens: &[u8], place: usize, kind: u64, answer: &mut [u64; CONSUM
             0
         }
         Consumed::Refused(x, _) => {
-            answer[0] = x.figure;
+            answer[FIGURE] = x.figure;
             x.number
         }
     }
@@ -67,18 +70,19 @@ pub fn match_kind(tokens: &[u8], place: usize, kind: u64, answer: &mut [u64; MAT
     ensures { λ _. ⌜ now (answer .exit) ≡ slotsAfter (matchedValues (matchAt (now (tokens .entry)) place kind .place)) (matchAt (now (tokens .entry)) place kind .answer) (now (answer .entry)) ⌝ }
 {
     if !is_kind(kind) {
-        answer[0] = kind;
+        answer[FIGURE] = kind;
         return REFUSED_KIND;
     }
     let n = record_reading::read::match_kind(tokens, place, kind as u8);
     match n {
         Matched::Got(fits, at) => {
             let same = truth_of(fits);
-            *answer = [at as u64, same];
+            let kept = answer[FIGURE];
+            *answer = [kept, at as u64, same];
             0
         }
         Matched::Refused(x, _) => {
-            answer[0] = x.figure;
+            answer[FIGURE] = x.figure;
             x.number
         }
     }

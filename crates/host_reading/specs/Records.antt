@@ -1,9 +1,7 @@
 -- What reading records back answers to the host, as numbers.
 use Prim.Native.Nat.{ℕ}
 use mathlib.Core.List.{List, [], _∷_, _++_}
-use lib.ListN.{set}
 use Rattle.spans.specs.declared.Span.{Span}
-use Rattle.records.specs.Answers.{Answer, got, refused}
 use Rattle.records.specs.declared.answers.TokenRecord.{TokenRecord}
 use Rattle.records.specs.declared.answers.ErrorRecord.{ErrorRecord}
 
@@ -20,7 +18,6 @@ tokenValues place r = recordValues place (r .kind) (r .span) ++ (r .offset ∷ r
 unfoldable pub errorValues : ℕ → ErrorRecord → List ℕ
 errorValues place r = recordValues place (r .kind) (r .span) ++ (r .code ∷ [])
 
--- The text check: a yes keeps the slot.
-unfoldable pub checkAfter : Answer (Unit {0}) → List ℕ → List ℕ
-checkAfter (got a) old = old
-checkAfter (refused number figure) old = set old 0 figure
+-- The text check has no values.
+unfoldable pub noValues : Unit {0} → List ℕ
+noValues u = []

@@ -3,15 +3,16 @@ ghost use mathlib.Core.Path.{_≡_};
 ghost use Rattle.record_reading.specs.Reading.{nextAt, nextErrorAt};
 ghost use Rattle.record_texts.specs.Texts.{textCheckAt};
 ghost use Rattle.host_answers.specs.Answers.{numberOf, slotsAfter};
-ghost use Rattle.host_reading.specs.Records.{tokenValues, errorValues, checkAfter};
+ghost use Rattle.host_reading.specs.Records.{tokenValues, errorValues, noValues};
+use host_answers::FIGURE;
 use records::answers::Next;
 use records::answers::NextError;
 use records::answers::TextCheck;
 
 // The slots of an answer: for a token, an error, a check.
-pub const TOKEN_SLOTS: usize = 10;
+pub const TOKEN_SLOTS: usize = 11;
 
-pub const ERROR_SLOTS: usize = 9;
+pub const ERROR_SLOTS: usize = 10;
 
 pub const CHECK_SLOTS: usize = 1;
 
@@ -24,7 +25,9 @@ pub fn next_token(tokens: &[u8], place: usize, answer: &mut [u64; TOKEN_SLOTS]) 
     match n {
         Next::Got(r, at) => {
             let s = r.span;
+            let kept = answer[FIGURE];
             *answer = [
+                kept,
                 at as u64,
                 r.kind as u64,
                 s.start as u64,
@@ -39,7 +42,7 @@ pub fn next_token(tokens: &[u8], place: usize, answer: &mut [u64; TOKEN_SLOTS]) 
             0
         }
         Next::Refused(x, _) => {
-            answer[0] = x.figure;
+            answer[FIGURE] = x.figure;
             x.number
         }
     }
@@ -54,7 +57,9 @@ pub fn next_error(errors: &[u8], place: usize, answer: &mut [u64; ERROR_SLOTS]) 
     match n {
         NextError::Got(r, at) => {
             let s = r.span;
+            let kept = answer[FIGURE];
             *answer = [
+                kept,
                 at as u64,
                 r.kind as u64,
                 s.start as u64,
@@ -68,7 +73,7 @@ pub fn next_error(errors: &[u8], place: usize, answer: &mut [u64; ERROR_SLOTS]) 
             0
         }
         NextError::Refused(x, _) => {
-            answer[0] = x.figure;
+            answer[FIGURE] = x.figure;
             x.number
         }
     }
@@ -83,13 +88,17 @@ pub fn text_check<'a>(
     answer: &mut [u64; CHECK_SLOTS],
 ) -> u64
     ensures { λ r. ⌜ r ≡ numberOf (textCheckAt (now (script .entry)) (now (texts .entry)) (now (tokens .entry)) place) ⌝ }
-    ensures { λ _. ⌜ now (answer .exit) ≡ checkAfter (textCheckAt (now (script .entry)) (now (texts .entry)) (now (tokens .entry)) place) (now (answer .entry)) ⌝ }
+    ensures { λ _. ⌜ now (answer .exit) ≡ slotsAfter noValues (textCheckAt (now (script .entry)) (now (texts .entry)) (now (tokens .entry)) place) (now (answer .entry)) ⌝ }
 {
     let c = record_texts::text_check(script, texts, tokens, place);
     match c {
-        TextCheck::Inside => 0,
+        TextCheck::Inside => {
+            let kept = answer[FIGURE];
+            *answer = [kept];
+            0
+        }
         TextCheck::Refused(x) => {
-            answer[0] = x.figure;
+            answer[FIGURE] = x.figure;
             x.number
         }
     }

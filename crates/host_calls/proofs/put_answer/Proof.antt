@@ -12,6 +12,9 @@ enum-known-a c = search needs
 truth-of-requires : tie.Need-truth-of-requires
 truth-of-requires c κs = search needs
 
+element-copy-out-kept : tie.Need-element-copy-out-kept
+element-copy-out-kept c = search needs
+
 enum-known-a-2 : tie.Need-enum-known-a-2
 enum-known-a-2 c = search needs
 
@@ -20,7 +23,7 @@ element-write-answer c = search needs
 
 returns : tie.Need-returns
 unfolding numberOf slotsAfter usedValues
-returns c = rw (c .before .before .before .a .given .1) (refl, rw (c .before .truth-of .ensures))
+returns c = rw (c .before .before .before .before .a .given .1) (refl, rw (c .before .before .truth-of .ensures))
 
 returns-2 : tie.Need-returns-2
 unfolding numberOf slotsAfter
@@ -29,4 +32,11 @@ returns-2 c = rw (c .before .a2 .given .1) (refl, refl)
 pub put-answer-spec : {M : Type 1} → statement M
 put-answer-spec =
     tie.close
-    (tie.spec enum-known-a truth-of-requires enum-known-a-2 element-write-answer returns returns-2)
+    (tie.spec
+    enum-known-a
+    truth-of-requires
+    element-copy-out-kept
+    enum-known-a-2
+    element-write-answer
+    returns
+    returns-2)

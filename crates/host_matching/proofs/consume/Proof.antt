@@ -38,8 +38,11 @@ enum-known-n c = search needs
 truth-of-requires : tie.Need-truth-of-requires
 truth-of-requires c κs = search needs
 
-cast-t19 : tie.Need-cast-t19
-cast-t19 c = search needs
+element-copy-out-kept : tie.Need-element-copy-out-kept
+element-copy-out-kept c = search needs
+
+cast-t22 : tie.Need-cast-t22
+cast-t22 c = search needs
 
 enum-known-n-2 : tie.Need-enum-known-n-2
 enum-known-n-2 c = search needs
@@ -49,7 +52,7 @@ element-write-answer-2 c = search needs
 
 returns-2 : tie.Need-returns-2
 unfolding numberOf slotsAfter recordValues tokenValues consumedValues
-returns-2 c = rw (sym (c .before .before .before .before .before .before .before .consume .ensures) ∙ ap ofConsumed (c .before .before .before .before .before .n .given .1)) (refl, rw (c .before .before .truth-of .ensures))
+returns-2 c = rw (sym (c .before .before .before .before .before .before .before .before .consume .ensures) ∙ ap ofConsumed (c .before .before .before .before .before .before .n .given .1)) (refl, rw (c .before .before .before .truth-of .ensures))
 
 returns-3 : tie.Need-returns-3
 unfolding numberOf slotsAfter
@@ -66,7 +69,8 @@ consume-spec =
     consume-requires
     enum-known-n
     truth-of-requires
-    cast-t19
+    element-copy-out-kept
+    cast-t22
     enum-known-n-2
     element-write-answer-2
     returns-2

@@ -37,6 +37,9 @@ enum-known-n c = search needs
 truth-of-requires : tie.Need-truth-of-requires
 truth-of-requires c κs = search needs
 
+element-copy-out-kept : tie.Need-element-copy-out-kept
+element-copy-out-kept c = search needs
+
 enum-known-n-2 : tie.Need-enum-known-n-2
 enum-known-n-2 c = search needs
 
@@ -45,7 +48,7 @@ element-write-answer-2 c = search needs
 
 returns-2 : tie.Need-returns-2
 unfolding numberOf slotsAfter matchedValues
-returns-2 c = rw (sym (c .before .before .before .before .before .match-kind .ensures) ∙ ap ofMatched (c .before .before .before .n .given .1)) (refl, rw (c .before .truth-of .ensures))
+returns-2 c = rw (sym (c .before .before .before .before .before .before .match-kind .ensures) ∙ ap ofMatched (c .before .before .before .before .n .given .1)) (refl, rw (c .before .before .truth-of .ensures))
 
 returns-3 : tie.Need-returns-3
 unfolding numberOf slotsAfter
@@ -62,6 +65,7 @@ match-kind-spec =
     match-kind-requires
     enum-known-n
     truth-of-requires
+    element-copy-out-kept
     enum-known-n-2
     element-write-answer-2
     returns-2

@@ -13,11 +13,14 @@ next-error-requires c κs = search needs
 enum-known-n : tie.Need-enum-known-n
 enum-known-n c = search needs
 
-cast-t11 : tie.Need-cast-t11
-cast-t11 c = search needs
+element-copy-out-kept : tie.Need-element-copy-out-kept
+element-copy-out-kept c = search needs
 
-cast-t18 : tie.Need-cast-t18
-cast-t18 c = search needs
+cast-t14 : tie.Need-cast-t14
+cast-t14 c = search needs
+
+cast-t21 : tie.Need-cast-t21
+cast-t21 c = search needs
 
 enum-known-n-2 : tie.Need-enum-known-n-2
 enum-known-n-2 c = search needs
@@ -27,7 +30,7 @@ element-write-answer c = search needs
 
 returns : tie.Need-returns
 unfolding numberOf slotsAfter recordValues errorValues
-returns c = rw (sym (c .before .before .before .before .before .before .before .next-error .ensures) ∙ ap ofNextError (c .before .before .before .before .before .n .given .1)) (refl, refl)
+returns c = rw (sym (c .before .before .before .before .before .before .before .before .next-error .ensures) ∙ ap ofNextError (c .before .before .before .before .before .before .n .given .1)) (refl, refl)
 
 returns-2 : tie.Need-returns-2
 unfolding numberOf slotsAfter
@@ -39,8 +42,9 @@ next-error-spec =
     (tie.spec
     next-error-requires
     enum-known-n
-    cast-t11
-    cast-t18
+    element-copy-out-kept
+    cast-t14
+    cast-t21
     enum-known-n-2
     element-write-answer
     returns

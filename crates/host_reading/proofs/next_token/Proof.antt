@@ -13,8 +13,11 @@ next-token-requires c κs = search needs
 enum-known-n : tie.Need-enum-known-n
 enum-known-n c = search needs
 
-cast-t11 : tie.Need-cast-t11
-cast-t11 c = search needs
+element-copy-out-kept : tie.Need-element-copy-out-kept
+element-copy-out-kept c = search needs
+
+cast-t14 : tie.Need-cast-t14
+cast-t14 c = search needs
 
 enum-known-n-2 : tie.Need-enum-known-n-2
 enum-known-n-2 c = search needs
@@ -24,7 +27,7 @@ element-write-answer c = search needs
 
 returns : tie.Need-returns
 unfolding numberOf slotsAfter recordValues tokenValues
-returns c = rw (sym (c .before .before .before .before .before .before .next-token .ensures) ∙ ap ofNext (c .before .before .before .before .n .given .1)) (refl, refl)
+returns c = rw (sym (c .before .before .before .before .before .before .before .next-token .ensures) ∙ ap ofNext (c .before .before .before .before .before .n .given .1)) (refl, refl)
 
 returns-2 : tie.Need-returns-2
 unfolding numberOf slotsAfter
@@ -36,7 +39,8 @@ next-token-spec =
     (tie.spec
     next-token-requires
     enum-known-n
-    cast-t11
+    element-copy-out-kept
+    cast-t14
     enum-known-n-2
     element-write-answer
     returns
