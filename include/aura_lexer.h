@@ -9,8 +9,9 @@
  *   - each pointer leads to as many bytes (or slots) as the call is told;
  *   - the buffers that a call writes and its answer overlap neither each other nor the slices that it reads.
  *
- * Except for the four calls on characters, a call returns 0 for a yes, else the number of the refusal (AURA_REFUSED_..). A
- * refusal sets answer[0] to its figure and changes nothing else: the other slots and every lent buffer keep their bytes.
+ * Except for aura_mark_length, aura_is_white and aura_encode_char, a call returns 0 for a yes, else the number of the refusal
+ * (AURA_REFUSED_..). The first slot of its answer is for the figure, and a yes keeps it. A refusal sets it and changes nothing
+ * else: the other slots and every lent buffer keep, so a reader that takes its place from the answer stays where it was.
  */
 #ifndef AURA_LEXER_H
 #define AURA_LEXER_H
@@ -72,40 +73,42 @@ enum {
  * end is the offset of the last character for names and keywords (kinds 4 to 68), equals start for a lone mark, and is one past
  * the last character for all others. */
 
-/* The slots of each answer. Of a refusal only the first has a meaning: AURA_FIGURE. */
+/* The slots of each answer. The first is set by a refusal only, the others by a yes only. */
 enum { AURA_FIGURE = 0 };
 
 /* aura_measure, aura_tokenize. */
 enum {
-    AURA_USED_TOKENS = 0, /* bytes used in the token buffer */
-    AURA_USED_TEXTS = 1,  /* bytes used in the text buffer */
-    AURA_USED_ERRORS = 2, /* bytes used in the error buffer */
-    AURA_USED_COUNT = 3,  /* the number of tokens, EOF counted */
-    AURA_USED_CLOSED = 4, /* 1: nothing is open at the script's end; 0: something is */
-    AURA_USED_SLOTS = 5
+    AURA_USED_TOKENS = 1, /* bytes used in the token buffer */
+    AURA_USED_TEXTS = 2,  /* bytes used in the text buffer */
+    AURA_USED_ERRORS = 3, /* bytes used in the error buffer */
+    AURA_USED_COUNT = 4,  /* the number of tokens, EOF counted */
+    AURA_USED_CLOSED = 5, /* 1: nothing is open at the script's end; 0: something is */
+    AURA_USED_SLOTS = 6
 };
 
 /* aura_next_token; aura_consume with one slot more; aura_match_kind with the place and one slot; aura_next_error. */
 enum {
-    AURA_NEXT_PLACE = 0, /* the place of the next record */
-    AURA_KIND = 1,
-    AURA_START = 2,
-    AURA_END = 3,
-    AURA_START_LINE = 4,
-    AURA_START_COLUMN = 5,
-    AURA_END_LINE = 6,
-    AURA_END_COLUMN = 7,
-    AURA_TEXT_OFFSET = 8, /* 0 for a kind without a text */
-    AURA_TEXT_LENGTH = 9, /* 0 for a kind without a text */
-    AURA_TOKEN_SLOTS = 10,
-    AURA_CONSUME_FITS = 10, /* 1: the token is of the kind asked for; 0: it is not */
-    AURA_CONSUME_SLOTS = 11,
-    AURA_MATCH_FITS = 1, /* 1: the token is of the kind asked for; 0: it is not */
-    AURA_MATCH_SLOTS = 2,
-    AURA_CODE_POINT = 8, /* 0 for an error that names no character */
-    AURA_ERROR_SLOTS = 9,
-    AURA_CHECK_SLOTS = 1
+    AURA_NEXT_PLACE = 1, /* the place of the next record */
+    AURA_KIND = 2,
+    AURA_START = 3,
+    AURA_END = 4,
+    AURA_START_LINE = 5,
+    AURA_START_COLUMN = 6,
+    AURA_END_LINE = 7,
+    AURA_END_COLUMN = 8,
+    AURA_TEXT_OFFSET = 9,  /* 0 for a kind without a text */
+    AURA_TEXT_LENGTH = 10, /* 0 for a kind without a text */
+    AURA_TOKEN_SLOTS = 11,
+    AURA_CONSUME_FITS = 11, /* 1: the token is of the kind asked for; 0: it is not */
+    AURA_CONSUME_SLOTS = 12,
+    AURA_MATCH_FITS = 2, /* 1: the token is of the kind asked for; 0: it is not */
+    AURA_MATCH_SLOTS = 3,
+    AURA_CODE_POINT = 9, /* 0 for an error that names no character */
+    AURA_ERROR_SLOTS = 10
 };
+
+/* aura_text_check: the figure alone. */
+enum { AURA_CHECK_SLOTS = 1 };
 
 /* Tokenises a script into three lent buffers. Bytes beyond those used keep. Refusals 1 to 5. */
 uint64_t aura_tokenize(const uint8_t *script, size_t script_length,
@@ -132,14 +135,14 @@ uint64_t aura_match_kind(const uint8_t *tokens, size_t tokens_length, size_t pla
 uint64_t aura_next_error(const uint8_t *errors, size_t errors_length, size_t place, uint64_t answer[AURA_ERROR_SLOTS]);
 
 /* Whether the text of the token record at a place lies inside its buffer; yes for a kind without a text. The script is lent as it
- * was to tokenising, its mark included. A yes sets no slot. Refusals 7 and 8. */
+ * was to tokenising, its mark included. Refusals 7 and 8. */
 uint64_t aura_text_check(const uint8_t *script, size_t script_length,
                          const uint8_t *texts, size_t texts_length,
                          const uint8_t *tokens, size_t tokens_length,
                          size_t place, uint64_t answer[AURA_CHECK_SLOTS]);
 
-/* 0 where the text is UTF-8 (place keeps), else 2 and the first byte of the first bad sequence in *place. Any length is taken. */
-uint64_t aura_first_bad(const uint8_t *text, size_t length, uint64_t *place);
+/* Whether a text of any length is UTF-8. Its answer is the figure alone: the first byte of the first bad sequence. Refusal 2. */
+uint64_t aura_first_bad(const uint8_t *text, size_t length, uint64_t *figure);
 
 /* The bytes of the byte-order mark that the text begins with: 3 or 0. */
 uint64_t aura_mark_length(const uint8_t *text, size_t length);

@@ -1,5 +1,6 @@
 //! What the calls answer, as types.
 use crate::kinds::TokenKind;
+use crate::raw::{CODE_POINT, FIGURE, KIND, START, TEXT_LENGTH, TEXT_OFFSET, USED_SLOTS};
 use std::fmt;
 
 /// A "no": the number of document 01's question, and its figure. Nothing was changed.
@@ -47,7 +48,7 @@ impl fmt::Display for Refusal {
 
 impl std::error::Error for Refusal {}
 
-/// A yes, or the refusal that a call's number and its first slot say.
+/// A yes, or the refusal that a call's number and its figure say.
 pub fn checked(number: u64, figure: u64) -> Result<(), Refusal> {
     match number {
         0 => Ok(()),
@@ -67,9 +68,9 @@ pub struct Used {
 
 impl Used {
     /// The answer of measuring or tokenising.
-    pub fn from_answer(number: u64, answer: [u64; 5]) -> Result<Self, Refusal> {
-        checked(number, answer[0])?;
-        let [tokens, texts, errors, count, closed] = answer.map(|n| n as usize);
+    pub fn from_answer(number: u64, answer: [u64; USED_SLOTS]) -> Result<Self, Refusal> {
+        checked(number, answer[FIGURE])?;
+        let [_, tokens, texts, errors, count, closed] = answer.map(|n| n as usize);
         Ok(Used { tokens, texts, errors, count, closed: closed == 1 })
     }
 }
@@ -86,7 +87,9 @@ pub struct Span {
 }
 
 impl Span {
-    fn from_slots(slots: &[u64]) -> Self {
+    /// From a reader's yes.
+    fn from_answer(answer: &[u64]) -> Self {
+        let slots = &answer[START..];
         Span {
             start: slots[0],
             end: slots[1],
@@ -113,13 +116,13 @@ pub struct Token {
 }
 
 impl Token {
-    /// From the slots 1 to 9 of a reader's yes.
-    pub(crate) fn from_slots(slots: &[u64]) -> Self {
+    /// From a reader's yes.
+    pub(crate) fn from_answer(answer: &[u64]) -> Self {
         Token {
-            kind: TokenKind::from_number(slots[1]).expect("a reader's yes has a kind of at most 125"),
-            span: Span::from_slots(&slots[2..8]),
-            offset: slots[8],
-            length: slots[9],
+            kind: TokenKind::from_number(answer[KIND]).expect("a reader's yes has a kind of at most 125"),
+            span: Span::from_answer(answer),
+            offset: answer[TEXT_OFFSET],
+            length: answer[TEXT_LENGTH],
         }
     }
 
@@ -216,10 +219,10 @@ pub struct LexError {
 }
 
 impl LexError {
-    /// From the slots 1 to 8 of a reader's yes.
-    pub(crate) fn from_slots(slots: &[u64]) -> Self {
-        let kind = ErrorKind::from_number(slots[1]).expect("a reader's yes has a kind from 1 to 10");
-        LexError { kind, span: Span::from_slots(&slots[2..8]), code: kind.names_character().then_some(slots[8] as u32) }
+    /// From a reader's yes.
+    pub(crate) fn from_answer(answer: &[u64]) -> Self {
+        let kind = ErrorKind::from_number(answer[KIND]).expect("a reader's yes has a kind from 1 to 10");
+        LexError { kind, span: Span::from_answer(answer), code: kind.names_character().then_some(answer[CODE_POINT] as u32) }
     }
 }
 

@@ -42,23 +42,23 @@ pub const fn errors_room(n: usize) -> usize {
 
 /// What tokenising a script would answer, with large enough buffers.
 pub fn measure(script: &[u8]) -> Result<Used, Refusal> {
-    let mut answer = [0; 5];
+    let mut answer = [0; raw::USED_SLOTS];
     let number = raw::measure(script, &mut answer);
     Used::from_answer(number, answer)
 }
 
 /// Tokenises a script into lent buffers. A refusal changes none of them; bytes beyond those used keep.
 pub fn tokenize(script: &[u8], tokens: &mut [u8], texts: &mut [u8], errors: &mut [u8]) -> Result<Used, Refusal> {
-    let mut answer = [0; 5];
+    let mut answer = [0; raw::USED_SLOTS];
     let number = raw::tokenize(script, tokens, texts, errors, &mut answer);
     Used::from_answer(number, answer)
 }
 
 /// Whether a text is UTF-8; the refusal's figure is the first byte of the first bad sequence.
 pub fn first_bad(text: &[u8]) -> Result<(), Refusal> {
-    let mut place = 0;
-    let number = raw::first_bad(text, &mut place);
-    checked(number, place)
+    let mut figure = 0;
+    let number = raw::first_bad(text, &mut figure);
+    checked(number, figure)
 }
 
 /// The bytes of the byte-order mark that a text begins with: 3 or 0.

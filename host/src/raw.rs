@@ -1,13 +1,42 @@
 //! The exported calls on numbers and slices, without `unsafe` for the caller. Each returns 0 for a yes, else the number of the
 //! refusal; the answer is lent, so that a caller sees which slots were set (`include/aura_lexer.h` says what each one means).
 
+/// The slot of the figure, the first of each answer: a refusal sets it alone, a yes keeps it and sets the others.
+pub const FIGURE: usize = 0;
+
+/// The slots of measuring and tokenising.
+pub const USED_SLOTS: usize = 6;
+
+/// The slots that the answers of the readers have in common: the place of the next record, its kind, the first field of its span.
+pub const NEXT_PLACE: usize = 1;
+pub const KIND: usize = 2;
+pub const START: usize = 3;
+
+/// The slots behind the span: of a token, of consuming, of an error.
+pub const TEXT_OFFSET: usize = 9;
+pub const TEXT_LENGTH: usize = 10;
+pub const TOKEN_SLOTS: usize = 11;
+pub const CONSUME_FITS: usize = 11;
+pub const CONSUME_SLOTS: usize = 12;
+pub const CODE_POINT: usize = 9;
+pub const ERROR_SLOTS: usize = 10;
+
+/// Matching has the next place only, and whether the kind fits.
+pub const MATCH_FITS: usize = 2;
+pub const MATCH_SLOTS: usize = 3;
+
+/// The text check has the figure only.
+pub const CHECK_SLOTS: usize = 1;
+
 mod calls {
+    use super::{CHECK_SLOTS, CONSUME_SLOTS, ERROR_SLOTS, MATCH_SLOTS, TOKEN_SLOTS, USED_SLOTS};
+
     extern "C" {
-        pub fn aura_first_bad(text: *const u8, length: usize, place: *mut u64) -> u64;
+        pub fn aura_first_bad(text: *const u8, length: usize, figure: *mut u64) -> u64;
         pub fn aura_mark_length(text: *const u8, length: usize) -> u64;
         pub fn aura_is_white(code: u32) -> u64;
         pub fn aura_encode_char(code: u32, buffer: *mut u8, length: usize, at: usize) -> u64;
-        pub fn aura_measure(script: *const u8, length: usize, answer: *mut [u64; 5]) -> u64;
+        pub fn aura_measure(script: *const u8, length: usize, answer: *mut [u64; USED_SLOTS]) -> u64;
         pub fn aura_tokenize(
             script: *const u8,
             script_length: usize,
@@ -17,12 +46,12 @@ mod calls {
             texts_length: usize,
             errors: *mut u8,
             errors_length: usize,
-            answer: *mut [u64; 5],
+            answer: *mut [u64; USED_SLOTS],
         ) -> u64;
-        pub fn aura_next_token(tokens: *const u8, length: usize, place: usize, answer: *mut [u64; 10]) -> u64;
-        pub fn aura_consume(tokens: *const u8, length: usize, place: usize, kind: u64, answer: *mut [u64; 11]) -> u64;
-        pub fn aura_match_kind(tokens: *const u8, length: usize, place: usize, kind: u64, answer: *mut [u64; 2]) -> u64;
-        pub fn aura_next_error(errors: *const u8, length: usize, place: usize, answer: *mut [u64; 9]) -> u64;
+        pub fn aura_next_token(tokens: *const u8, length: usize, place: usize, answer: *mut [u64; TOKEN_SLOTS]) -> u64;
+        pub fn aura_consume(tokens: *const u8, length: usize, place: usize, kind: u64, answer: *mut [u64; CONSUME_SLOTS]) -> u64;
+        pub fn aura_match_kind(tokens: *const u8, length: usize, place: usize, kind: u64, answer: *mut [u64; MATCH_SLOTS]) -> u64;
+        pub fn aura_next_error(errors: *const u8, length: usize, place: usize, answer: *mut [u64; ERROR_SLOTS]) -> u64;
         pub fn aura_text_check(
             script: *const u8,
             script_length: usize,
@@ -31,7 +60,7 @@ mod calls {
             tokens: *const u8,
             tokens_length: usize,
             place: usize,
-            answer: *mut [u64; 1],
+            answer: *mut [u64; CHECK_SLOTS],
         ) -> u64;
     }
 }
@@ -39,11 +68,11 @@ mod calls {
 // In every call below the pointers come from references: they are not null, lead to as many bytes as told, and what is written
 // overlaps nothing.
 
-pub fn measure(script: &[u8], answer: &mut [u64; 5]) -> u64 {
+pub fn measure(script: &[u8], answer: &mut [u64; USED_SLOTS]) -> u64 {
     unsafe { calls::aura_measure(script.as_ptr(), script.len(), answer) }
 }
 
-pub fn tokenize(script: &[u8], tokens: &mut [u8], texts: &mut [u8], errors: &mut [u8], answer: &mut [u64; 5]) -> u64 {
+pub fn tokenize(script: &[u8], tokens: &mut [u8], texts: &mut [u8], errors: &mut [u8], answer: &mut [u64; USED_SLOTS]) -> u64 {
     unsafe {
         calls::aura_tokenize(
             script.as_ptr(),
@@ -59,23 +88,23 @@ pub fn tokenize(script: &[u8], tokens: &mut [u8], texts: &mut [u8], errors: &mut
     }
 }
 
-pub fn next_token(tokens: &[u8], place: usize, answer: &mut [u64; 10]) -> u64 {
+pub fn next_token(tokens: &[u8], place: usize, answer: &mut [u64; TOKEN_SLOTS]) -> u64 {
     unsafe { calls::aura_next_token(tokens.as_ptr(), tokens.len(), place, answer) }
 }
 
-pub fn consume(tokens: &[u8], place: usize, kind: u64, answer: &mut [u64; 11]) -> u64 {
+pub fn consume(tokens: &[u8], place: usize, kind: u64, answer: &mut [u64; CONSUME_SLOTS]) -> u64 {
     unsafe { calls::aura_consume(tokens.as_ptr(), tokens.len(), place, kind, answer) }
 }
 
-pub fn match_kind(tokens: &[u8], place: usize, kind: u64, answer: &mut [u64; 2]) -> u64 {
+pub fn match_kind(tokens: &[u8], place: usize, kind: u64, answer: &mut [u64; MATCH_SLOTS]) -> u64 {
     unsafe { calls::aura_match_kind(tokens.as_ptr(), tokens.len(), place, kind, answer) }
 }
 
-pub fn next_error(errors: &[u8], place: usize, answer: &mut [u64; 9]) -> u64 {
+pub fn next_error(errors: &[u8], place: usize, answer: &mut [u64; ERROR_SLOTS]) -> u64 {
     unsafe { calls::aura_next_error(errors.as_ptr(), errors.len(), place, answer) }
 }
 
-pub fn text_check(script: &[u8], texts: &[u8], tokens: &[u8], place: usize, answer: &mut [u64; 1]) -> u64 {
+pub fn text_check(script: &[u8], texts: &[u8], tokens: &[u8], place: usize, answer: &mut [u64; CHECK_SLOTS]) -> u64 {
     unsafe {
         calls::aura_text_check(
             script.as_ptr(),
@@ -90,8 +119,8 @@ pub fn text_check(script: &[u8], texts: &[u8], tokens: &[u8], place: usize, answ
     }
 }
 
-pub fn first_bad(text: &[u8], place: &mut u64) -> u64 {
-    unsafe { calls::aura_first_bad(text.as_ptr(), text.len(), place) }
+pub fn first_bad(text: &[u8], figure: &mut u64) -> u64 {
+    unsafe { calls::aura_first_bad(text.as_ptr(), text.len(), figure) }
 }
 
 pub fn mark_length(text: &[u8]) -> u64 {

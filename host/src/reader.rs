@@ -1,5 +1,6 @@
 //! Reading records back.
 use crate::answers::{checked, LexError, Refusal, Token};
+use crate::raw::{CONSUME_FITS, FIGURE, MATCH_FITS, NEXT_PLACE};
 use crate::{after_mark, raw};
 
 /// The token buffer and a place in it. A refused call keeps the place, and at EOF the reader stays.
@@ -25,45 +26,45 @@ impl<'a> TokenReader<'a> {
 
     /// The token at the place; the reader moves on.
     pub fn next_token(&mut self) -> Result<Token, Refusal> {
-        let mut answer = [0; 10];
+        let mut answer = [0; raw::TOKEN_SLOTS];
         let number = raw::next_token(self.tokens, self.place, &mut answer);
-        checked(number, answer[0])?;
-        self.place = answer[0] as usize;
-        Ok(Token::from_slots(&answer))
+        checked(number, answer[FIGURE])?;
+        self.place = answer[NEXT_PLACE] as usize;
+        Ok(Token::from_answer(&answer))
     }
 
     /// The token at the place, and whether it is of the kind; the reader moves on either way, but does not leave EOF.
     pub fn consume(&mut self, kind: impl Into<u64>) -> Result<(Token, bool), Refusal> {
-        let mut answer = [0; 11];
+        let mut answer = [0; raw::CONSUME_SLOTS];
         let number = raw::consume(self.tokens, self.place, kind.into(), &mut answer);
-        checked(number, answer[0])?;
-        self.place = answer[0] as usize;
-        Ok((Token::from_slots(&answer), answer[10] == 1))
+        checked(number, answer[FIGURE])?;
+        self.place = answer[NEXT_PLACE] as usize;
+        Ok((Token::from_answer(&answer), answer[CONSUME_FITS] == 1))
     }
 
     /// Whether the token at the place is of the kind; the reader moves on only then, and does not leave EOF.
     pub fn match_kind(&mut self, kind: impl Into<u64>) -> Result<bool, Refusal> {
-        let mut answer = [0; 2];
+        let mut answer = [0; raw::MATCH_SLOTS];
         let number = raw::match_kind(self.tokens, self.place, kind.into(), &mut answer);
-        checked(number, answer[0])?;
-        self.place = answer[0] as usize;
-        Ok(answer[1] == 1)
+        checked(number, answer[FIGURE])?;
+        self.place = answer[NEXT_PLACE] as usize;
+        Ok(answer[MATCH_FITS] == 1)
     }
 }
 
 /// The error record at a place, and the next place. Behind the last record it answers 7.
 pub fn next_error(errors: &[u8], place: usize) -> Result<(LexError, usize), Refusal> {
-    let mut answer = [0; 9];
+    let mut answer = [0; raw::ERROR_SLOTS];
     let number = raw::next_error(errors, place, &mut answer);
-    checked(number, answer[0])?;
-    Ok((LexError::from_slots(&answer), answer[0] as usize))
+    checked(number, answer[FIGURE])?;
+    Ok((LexError::from_answer(&answer), answer[NEXT_PLACE] as usize))
 }
 
 /// Whether the text of the token record at a place lies inside its buffer. The script is lent with its byte-order mark.
 pub fn text_check(script: &[u8], texts: &[u8], tokens: &[u8], place: usize) -> Result<(), Refusal> {
-    let mut answer = [0; 1];
+    let mut answer = [0; raw::CHECK_SLOTS];
     let number = raw::text_check(script, texts, tokens, place, &mut answer);
-    checked(number, answer[0])
+    checked(number, answer[FIGURE])
 }
 
 /// The text of the token record at a place: a part of the script or of the text buffer, or the fixed spelling of its kind.
