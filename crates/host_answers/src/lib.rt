@@ -2,7 +2,7 @@
 ghost use mathlib.Core.Path.{_≡_};
 ghost use Rattle.host_answers.specs.Answers.{truth};
 
-// The slot of the figure, the first of each answer.
+// The slot of the figure, the first of each answer. A yes keeps it, and a refusal sets no other.
 pub const FIGURE: usize = 0;
 
 // 1 for true, 0 for false.

@@ -41,10 +41,11 @@ pub fn consume(tokens: &[u8], place: usize, kind: u64, answer: &mut [u64; CONSUM
             let s = r.span;
             let same = truth_of(fits);
             let kept = answer[FIGURE];
+            let found = r.kind as u64;
             *answer = [
                 kept,
                 at as u64,
-                r.kind as u64,
+                found,
                 s.start as u64,
                 s.end as u64,
                 s.start_line as u64,

@@ -26,10 +26,11 @@ pub fn next_token(tokens: &[u8], place: usize, answer: &mut [u64; TOKEN_SLOTS]) 
         Next::Got(r, at) => {
             let s = r.span;
             let kept = answer[FIGURE];
+            let kind = r.kind as u64;
             *answer = [
                 kept,
                 at as u64,
-                r.kind as u64,
+                kind,
                 s.start as u64,
                 s.end as u64,
                 s.start_line as u64,
@@ -58,17 +59,19 @@ pub fn next_error(errors: &[u8], place: usize, answer: &mut [u64; ERROR_SLOTS]) 
         NextError::Got(r, at) => {
             let s = r.span;
             let kept = answer[FIGURE];
+            let kind = r.kind as u64;
+            let code = r.code as u64;
             *answer = [
                 kept,
                 at as u64,
-                r.kind as u64,
+                kind,
                 s.start as u64,
                 s.end as u64,
                 s.start_line as u64,
                 s.start_col as u64,
                 s.end_line as u64,
                 s.end_col as u64,
-                r.code as u64,
+                code,
             ];
             0
         }
@@ -92,6 +95,7 @@ pub fn text_check<'a>(
 {
     let c = record_texts::text_check(script, texts, tokens, place);
     match c {
+        // There are no values, so the slots are written as they are.
         TextCheck::Inside => {
             let kept = answer[FIGURE];
             *answer = [kept];

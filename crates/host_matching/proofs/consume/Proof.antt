@@ -41,8 +41,8 @@ truth-of-requires c κs = search needs
 element-copy-out-kept : tie.Need-element-copy-out-kept
 element-copy-out-kept c = search needs
 
-cast-t22 : tie.Need-cast-t22
-cast-t22 c = search needs
+cast-found : tie.Need-cast-found
+cast-found c = search needs
 
 enum-known-n-2 : tie.Need-enum-known-n-2
 enum-known-n-2 c = search needs
@@ -70,7 +70,7 @@ consume-spec =
     enum-known-n
     truth-of-requires
     element-copy-out-kept
-    cast-t22
+    cast-found
     enum-known-n-2
     element-write-answer-2
     returns-2

@@ -16,11 +16,11 @@ enum-known-n c = search needs
 element-copy-out-kept : tie.Need-element-copy-out-kept
 element-copy-out-kept c = search needs
 
-cast-t14 : tie.Need-cast-t14
-cast-t14 c = search needs
+cast-kind : tie.Need-cast-kind
+cast-kind c = search needs
 
-cast-t21 : tie.Need-cast-t21
-cast-t21 c = search needs
+cast-code : tie.Need-cast-code
+cast-code c = search needs
 
 enum-known-n-2 : tie.Need-enum-known-n-2
 enum-known-n-2 c = search needs
@@ -43,8 +43,8 @@ next-error-spec =
     next-error-requires
     enum-known-n
     element-copy-out-kept
-    cast-t14
-    cast-t21
+    cast-kind
+    cast-code
     enum-known-n-2
     element-write-answer
     returns

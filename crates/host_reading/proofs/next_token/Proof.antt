@@ -16,8 +16,8 @@ enum-known-n c = search needs
 element-copy-out-kept : tie.Need-element-copy-out-kept
 element-copy-out-kept c = search needs
 
-cast-t14 : tie.Need-cast-t14
-cast-t14 c = search needs
+cast-kind : tie.Need-cast-kind
+cast-kind c = search needs
 
 enum-known-n-2 : tie.Need-enum-known-n-2
 enum-known-n-2 c = search needs
@@ -40,7 +40,7 @@ next-token-spec =
     next-token-requires
     enum-known-n
     element-copy-out-kept
-    cast-t14
+    cast-kind
     enum-known-n-2
     element-write-answer
     returns
