@@ -3,8 +3,8 @@ ghost use mathlib.Core.Path.{_≡_};
 ghost use Rattle.lexer.specs.Tokenize.{ofAnswer, measureAnswer};
 ghost use Rattle.host_answers.specs.Answers.{numberOf, slotsAfter};
 ghost use Rattle.host_calls.specs.Calls.{usedValues, HostTokenized};
-use host_answers::truth_of;
 use host_answers::FIGURE;
+use host_answers::truth_of;
 use lexer::Answer;
 
 // The slots of an answer.

@@ -4,8 +4,8 @@ ghost use Rattle.records.specs.Kinds.{isKind};
 ghost use Rattle.record_reading.specs.Reading.{consumeAt, matchAt};
 ghost use Rattle.host_answers.specs.Answers.{numberOf, slotsAfter};
 ghost use Rattle.host_matching.specs.Matching.{consumedValues, matchedValues};
-use host_answers::truth_of;
 use host_answers::FIGURE;
+use host_answers::truth_of;
 use records::answers::Consumed;
 use records::answers::Matched;
 use records::refusals::REFUSED_KIND;
@@ -58,9 +58,9 @@ pub fn consume(tokens: &[u8], place: usize, kind: u64, answer: &mut [u64; CONSUM
             ];
             0
         }
-        Consumed::Refused(x, _) => {
-            answer[FIGURE] = x.figure;
-            x.number
+        Consumed::Refused(not_consumed, _) => {
+            answer[FIGURE] = not_consumed.figure;
+            not_consumed.number
         }
     }
 }
@@ -82,9 +82,9 @@ pub fn match_kind(tokens: &[u8], place: usize, kind: u64, answer: &mut [u64; MAT
             *answer = [kept, at as u64, same];
             0
         }
-        Matched::Refused(x, _) => {
-            answer[FIGURE] = x.figure;
-            x.number
+        Matched::Refused(not_matched, _) => {
+            answer[FIGURE] = not_matched.figure;
+            not_matched.number
         }
     }
 }

@@ -42,9 +42,9 @@ pub fn next_token(tokens: &[u8], place: usize, answer: &mut [u64; TOKEN_SLOTS]) 
             ];
             0
         }
-        Next::Refused(x, _) => {
-            answer[FIGURE] = x.figure;
-            x.number
+        Next::Refused(no_token, _) => {
+            answer[FIGURE] = no_token.figure;
+            no_token.number
         }
     }
 }
@@ -75,9 +75,9 @@ pub fn next_error(errors: &[u8], place: usize, answer: &mut [u64; ERROR_SLOTS]) 
             ];
             0
         }
-        NextError::Refused(x, _) => {
-            answer[FIGURE] = x.figure;
-            x.number
+        NextError::Refused(no_error, _) => {
+            answer[FIGURE] = no_error.figure;
+            no_error.number
         }
     }
 }
@@ -101,9 +101,9 @@ pub fn text_check<'a>(
             *answer = [kept];
             0
         }
-        TextCheck::Refused(x) => {
-            answer[FIGURE] = x.figure;
-            x.number
+        TextCheck::Refused(no_text) => {
+            answer[FIGURE] = no_text.figure;
+            no_text.number
         }
     }
 }
