@@ -10,11 +10,15 @@ unfoldable pub numberOf : {A : Type 0} → Answer A → ℕ
 numberOf (got a) = 0
 numberOf (refused number figure) = number
 
--- The slots after an answer. The first is the figure's: a yes keeps it and sets the others to its values, a refusal sets it and keeps
--- the others.
+-- The slot of the figure, the first of each answer.
+abbrev pub FIGURE : ℕ
+FIGURE = 0
+
+-- The slots after an answer: a yes keeps the figure's and sets the others to its values, a refusal sets the figure's and keeps the
+-- others.
 unfoldable pub slotsAfter : {A : Type 0} → (A → List ℕ) → Answer A → List ℕ → List ℕ
-slotsAfter values (got a) old = getD old 0 0 ∷ values a
-slotsAfter values (refused number figure) old = set old 0 figure
+slotsAfter values (got a) old = getD old FIGURE 0 ∷ values a
+slotsAfter values (refused number figure) old = set old FIGURE figure
 
 -- 1 for true, 0 for false.
 unfoldable pub truth : Bool → ℕ
