@@ -26,7 +26,7 @@ use Rattle.rules.proofs.Kept.{escape-fits}
 use Rattle.rules.proofs.Bounds.{escape-one, errors-length}
 use Rattle.rules.proofs.Sources.{allRows, found-right}
 use Rattle.rules.proofs.Sizes.{width-low, chars-few, char-bytes}
-use Rattle.cursor.specs.Strings.{Unit as StringUnit, plainUnit, escapeUnit, unitOf, stands, unitErrors, madeFrom, unitsMade, errorsFrom, unitsErrors, aheadFrom, unitsAhead}
+use Rattle.cursor.specs.Strings.{StringUnit, plainUnit, escapeUnit, unitOf, stands, unitErrors, madeFrom, unitsMade, errorsFrom, unitsErrors, aheadFrom, unitsAhead}
 use Rattle.cursor.specs.Cursor.{placeFrom, tokensFrom, faultsFrom, andThen, held}
 use Rattle.cursor.proofs.Inside.{taking, string-turn, laterFrom, laterFault, escape-later, other-later, advances-append, then-join, held-step}
 

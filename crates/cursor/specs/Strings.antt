@@ -16,23 +16,23 @@ use Rattle.rules.specs.Lexer.{sizeBehindFirst, advance, errorsOf}
 
 -- A unit is a character or an escape: the characters that it takes, the text that it makes, and its errors, with places that count
 -- from its first character.
-pub record Unit : Type 0 where
+pub record StringUnit : Type 0 where
   pub chars : Text
   pub made : Text
   pub faults : List Fault
 
-unfoldable pub plainUnit : Char → Unit
+unfoldable pub plainUnit : Char → StringUnit
 plainUnit c = record { chars = c ∷ []; made = c ∷ []; faults = [] }
 
 -- An escape (lexer.rs, lines 643 to 700): `cs` is what stands behind the backslash.
-unfoldable pub escapeUnit : Text → Unit
+unfoldable pub escapeUnit : Text → StringUnit
 escapeUnit [] = record { chars = ch "\\" ∷ []; made = []; faults = [] }
 escapeUnit (e ∷ cs) =
     let x = escape 1 (otherEscape 1 e) e cs in
     record { chars = ch "\\" ∷ e ∷ take (x .extra) cs; made = x .text; faults = x .faults }
 
 -- The unit at the front of a text.
-unfoldable pub unitOf : Text → Unit
+unfoldable pub unitOf : Text → StringUnit
 unitOf [] = record { chars = []; made = []; faults = [] }
 unitOf (c ∷ cs) = if c is ch "\\" then escapeUnit cs else plainUnit c
 
@@ -46,7 +46,7 @@ stands (c ∷ cs) =
     else true
 
 -- The errors of a unit whose first character stands at `p`.
-unfoldable pub unitErrors : Position → Unit → List TokenizeError
+unfoldable pub unitErrors : Position → StringUnit → List TokenizeError
 unitErrors p u = errorsOf p (skipped string (u .chars) (u .faults) false) (u .faults)
 
 -- ── The units of a part of a text ──

@@ -16,7 +16,7 @@ use Rattle.spans.specs.declared.Position.{Position}
 use Rattle.rules.specs.Text.{Text}
 use Rattle.rules.specs.Tables.{ESCAPES, lookup}
 use Rattle.rules.specs.Strings.{plainEscape, escape}
-use Rattle.cursor.specs.Strings.{Unit as StringUnit, plainUnit}
+use Rattle.cursor.specs.Strings.{StringUnit, plainUnit}
 use Rattle.bridge.specs.Bridge.{Within, Reach}
 use Rattle.bridge.proofs.Reaches.{reach-nil, reach-join}
 use Rattle.walks.proofs.Enclosed.{reach-offset}

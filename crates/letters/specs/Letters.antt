@@ -11,7 +11,7 @@ use Rattle.rules.specs.Text.{Char, Text, ch, text}
 use Rattle.rules.specs.Scan.{next}
 use Rattle.rules.specs.Tables.{CharLiteral, UnterminatedCharacter}
 use Rattle.rules.specs.Strings.{escape}
-use Rattle.cursor.specs.Strings.{Unit as StringUnit, plainUnit}
+use Rattle.cursor.specs.Strings.{StringUnit, plainUnit}
 use Rattle.bridge.specs.Bridge.{Reach, onward, exactly}
 use Rattle.output.specs.Writing.{Put}
 use Rattle.multiline.specs.declared.Made.{Made}

@@ -28,7 +28,7 @@ use Rattle.lexemes.proofs.Lists.{rows-at, allBelow, below}
 use Rattle.lexemes.proofs.Words.{word-of, text-plain, end-word}
 use Rattle.classes.specs.Classes.{OTHER, markChars, placeFrom, classOf}
 use Rattle.classes.proofs.Classes.{class-low, class-high}
-use Rattle.marks.specs.Marks.{orElse, charOf, columnOf, kindIn, pairKind, thirdKind, markTable}
+use Rattle.marks.specs.Marks.{foundOr, charOf, columnOf, kindIn, pairKind, thirdKind, markTable}
 
 -- ── Look-ups ──
 
@@ -243,15 +243,15 @@ module _ (s : List ℕ) (at : ℕ) (r : Row) (e : lookup (getD s at 0) MARKS ≡
   zero-column = no-column c r (row-marked c r e) 0 refl
 
   lone-kind : pairKind c 0 ≡ r .alone
-  unfolding pairKind kindIn orElse
+  unfolding pairKind kindIn foundOr
   lone-kind = rw (e, zero-column)
 
-  kind-by : (b : Bool) → pairKind c (if b then d else 0) ≡ orElse (r .alone) (foundBy r d b)
-  unfolding pairKind kindIn foundBy orElse
+  kind-by : (b : Bool) → pairKind c (if b then d else 0) ≡ foundOr (r .alone) (foundBy r d b)
+  unfolding pairKind kindIn foundBy foundOr
   kind-by true = rw e
   kind-by false = lone-kind
 
-  next-kind : pairKind c (charOf (columnOf (classOf d))) ≡ orElse (r .alone) found
+  next-kind : pairKind c (charOf (columnOf (classOf d))) ≡ foundOr (r .alone) found
   next-kind = rw (second-char d) (kind-by (oneOf seconds d))
 
   found-column : (b : Bool) (k : ℕ) → foundBy r d b ≡ some k → (b ≡ true) × (lookup d (r .columns) ≡ some k)
@@ -260,22 +260,22 @@ module _ (s : List ℕ) (at : ℕ) (r : Row) (e : lookup (getD s at 0) MARKS ≡
   found-column false k q = let z : _≡_ {A = ℕ} 0 1 = cc in absurd (omega arith)
 
   -- A kind that is not the first mark's own is that of two marks.
-  found-none : orElse (r .alone) found ≡ r .alone → found ≡ none
-  unfolding orElse
+  found-none : foundOr (r .alone) found ≡ r .alone → found ≡ none
+  unfolding foundOr
   found-none h = go found refl h
     where
-      go : (o : Option ℕ) → found ≡ o → orElse (r .alone) o ≡ r .alone → o ≡ none
+      go : (o : Option ℕ) → found ≡ o → foundOr (r .alone) o ≡ r .alone → o ≡ none
       go none q h = refl
       go (some k) q h =
           let x = found-column (oneOf seconds d) k q in
           let y = row-marked c r e .column d k (x .1) .1 in
           absurd (true≢false (sym (eq-eqb k (r .alone) h) ∙ y))
 
-  found-some : (k : ℕ) → orElse (r .alone) found ≡ k → (k ≡ r .alone → ⊥) → found ≡ some k
-  unfolding orElse
+  found-some : (k : ℕ) → foundOr (r .alone) found ≡ k → (k ≡ r .alone → ⊥) → found ≡ some k
+  unfolding foundOr
   found-some k h n = go found refl h
     where
-      go : (o : Option ℕ) → found ≡ o → orElse (r .alone) o ≡ k → o ≡ some k
+      go : (o : Option ℕ) → found ≡ o → foundOr (r .alone) o ≡ k → o ≡ some k
       go none q h = absurd (n (sym h))
       go (some x) q h = ap some h
 
@@ -368,20 +368,20 @@ some-row none e = absurd (false≢true e)
 some-row (some r) e = (r, refl)
 
 third-none : (k : ℕ) → thirdKind k ≡ 0 → lookup k THIRDS ≡ none
-unfolding thirdKind orElse goodThird
+unfolding thirdKind foundOr goodThird
 third-none k h = go (lookup k THIRDS) refl h
   where
-    go : (o : Option ℕ) → lookup k THIRDS ≡ o → orElse 0 o ≡ 0 → o ≡ none
+    go : (o : Option ℕ) → lookup k THIRDS ≡ o → foundOr 0 o ≡ 0 → o ≡ none
     go none q h = refl
     go (some t) q h =
         let p = and-both (not (k is DoubleColonT) && not (t is DoubleColonT)) (not (t is 0)) (lookup-all goodThird THIRDS thirds-good k t q) in
         absurd (true≢false (sym (eq-eqb t 0 h) ∙ not-true (t is 0) (p .1)))
 
 third-some : (k : ℕ) → (thirdKind k ≡ 0 → ⊥) → lookup k THIRDS ≡ some (thirdKind k)
-unfolding thirdKind orElse
+unfolding thirdKind foundOr
 third-some k n = go (lookup k THIRDS) n
   where
-    go : (o : Option ℕ) → (orElse 0 o ≡ 0 → ⊥) → o ≡ some (orElse 0 o)
+    go : (o : Option ℕ) → (foundOr 0 o ≡ 0 → ⊥) → o ≡ some (foundOr 0 o)
     go none n = absurd (n refl)
     go (some t) n = refl
 
@@ -408,7 +408,7 @@ module _ (s : List ℕ) (at first lone x kind : ℕ) (q : first ≡ classOf (get
   unfolding columnOf charOf
   lone-is = a ∙ (ap (λ (c : ℕ). pairKind c 0) first-is ∙ lone-kind s at R (its-row .1))
 
-  kind-is : kind ≡ orElse (R .alone) (found s at R (its-row .1))
+  kind-is : kind ≡ foundOr (R .alone) (found s at R (its-row .1))
   kind-is =
       b
       ∙ (ap (λ (c : ℕ). pairKind c (charOf (columnOf x))) first-is
@@ -452,7 +452,7 @@ alone first column = pairKind (charOf first) (charOf column) is pairKind (charOf
 
 -- From the class 15 on every column has.
 delimiter-test : allBelow (λ i. allBelow (alone (15 + i)) 12) 11 ≡ true
-unfolding allBelow alone pairKind kindIn lookup MARKS charOf markChars orElse
+unfolding allBelow alone pairKind kindIn lookup MARKS charOf markChars foundOr
 delimiter-test = refl
 
 column-low : (k : ℕ) → columnOf k < 12
@@ -496,11 +496,11 @@ column-none k h = rw (lt-leb k 11 h)
 
 -- The marks that a third one goes with.
 pub third-is : (k : ℕ) → thirdKind k ≡ (if k is 94 then 125 else if k is 95 then 96 else if k is 116 then 117 else 0)
-unfolding thirdKind lookup THIRDS orElse
+unfolding thirdKind lookup THIRDS foundOr
 third-is k = go (k is 94) (k is 95) (k is 116)
   where
     go : (x y z : Bool)
-        → orElse 0 (if x then some 125 else if y then some 96 else if z then some 117 else none)
+        → foundOr 0 (if x then some 125 else if y then some 96 else if z then some 117 else none)
         ≡ (if x then 125 else if y then 96 else if z then 117 else 0)
     go true y z = refl
     go false true z = refl

@@ -27,21 +27,21 @@ unfoldable pub columnOf : ℕ → ℕ
 columnOf k = if leb k LAST-COLUMN then k else 0
 
 -- What a look-up found, or else a number.
-unfoldable pub orElse : ℕ → Option ℕ → ℕ
-orElse k none = k
-orElse k (some x) = x
+unfoldable pub foundOr : ℕ → Option ℕ → ℕ
+foundOr k none = k
+foundOr k (some x) = x
 
 -- The kind of a first mark's row before the character `d`: that of the two, or that of the first alone.
 unfoldable pub kindIn : Option Row → Char → ℕ
 kindIn none d = 0
-kindIn (some r) d = orElse (r .alone) (lookup d (r .columns))
+kindIn (some r) d = foundOr (r .alone) (lookup d (r .columns))
 
 unfoldable pub pairKind : Char → Char → ℕ
 pairKind c d = kindIn (lookup c MARKS) d
 
 -- The kind with a third mark equal to the second; 0 where there is none.
 unfoldable pub thirdKind : ℕ → ℕ
-thirdKind k = orElse 0 (lookup k THIRDS)
+thirdKind k = foundOr 0 (lookup k THIRDS)
 
 unfoldable pub markTable : List (List ℕ)
 markTable = rowsOf (λ i j. pairKind (charOf (suc i)) (charOf j)) COLUMNS LAST-MARK

@@ -20,7 +20,7 @@ headBytes kind span = kind ∷ spanBytes span
 
 -- A token's record, with its text's offset and length where its kind has them.
 unfoldable pub tokenRecord : ℕ → Span → ℕ → ℕ → List ℕ
-tokenRecord kind span offset length = headBytes kind span ++ (if hasText kind then pairBytes offset length else [])
+tokenRecord kind span offset size = headBytes kind span ++ (if hasText kind then pairBytes offset size else [])
 
 -- An error's record, with its code point where its kind has one.
 unfoldable pub errorRecord : ℕ → Span → ℕ → List ℕ

@@ -14,7 +14,7 @@ use Rattle.rules.specs.Scan.{run, takes, nothing}
 use Rattle.rules.specs.Tables.{BadUnicodeEscape, BadEscape}
 use Rattle.rules.specs.Tokens.{TokenizeError}
 use Rattle.rules.specs.Lexer.{advances, span}
-use Rattle.cursor.specs.Strings.{Unit as StringUnit, plainUnit, unitOf, stands, unitErrors, unitsMade, unitsErrors}
+use Rattle.cursor.specs.Strings.{StringUnit, plainUnit, unitOf, stands, unitErrors, unitsMade, unitsErrors}
 use Rattle.cursor.proofs.Units.{Whole, made-none, errors-none, whole-none, unit-made, unit-errors, whole-unit, whole-join}
 use Rattle.records.specs.Records.{errorRecord}
 use Rattle.bridge.specs.Bridge.{onward, isPlain}

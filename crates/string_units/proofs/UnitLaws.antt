@@ -20,7 +20,7 @@ use Rattle.rules.specs.Tables.{ESCAPES, lookup, BadUnicodeEscape, BadEscape}
 use Rattle.rules.specs.Segment.{fault}
 use Rattle.rules.specs.Strings.{hexCode, charOf, unicodeEscape, plainEscape, otherEscape, escape, isInterpStart}
 use Rattle.rules.specs.Lexer.{advances, span, errorsOf}
-use Rattle.cursor.specs.Strings.{Unit as StringUnit, plainUnit, escapeUnit, unitOf, stands, unitErrors}
+use Rattle.cursor.specs.Strings.{StringUnit, plainUnit, escapeUnit, unitOf, stands, unitErrors}
 use Rattle.bridge.specs.Bridge.{Within, Reach, onward}
 use Rattle.bridge.proofs.Reaches.{reach-join, advance-flat, word-reach}
 use Rattle.walks.proofs.Enclosed.{reach-offset, reach-slice}

@@ -14,7 +14,7 @@ use Rattle.rules.specs.Tokens.{TokenizeError}
 use Rattle.rules.specs.Tables.{BadUnicodeEscape, BadEscape}
 use Rattle.rules.specs.Strings.{hexCode, unicodeEscape}
 use Rattle.rules.specs.Lexer.{span}
-use Rattle.cursor.specs.Strings.{Unit as StringUnit, unitOf, stands, unitErrors}
+use Rattle.cursor.specs.Strings.{StringUnit, unitOf, stands, unitErrors}
 use Rattle.bridge.specs.Bridge.{onward, Reach}
 use Rattle.string_units.specs.declared.Made.{Made}
 use Rattle.string_units.specs.declared.Made.the-variants as made

@@ -2,7 +2,7 @@
 use mathlib.Core.Path.{sym, _∙_, subst}
 use Prim.Native.Nat.{ℕ}
 use mathlib.Core.List.{[], _∷_}
-use Rattle.cursor.specs.Strings.{Unit as StringUnit}
+use Rattle.cursor.specs.Strings.{StringUnit}
 use Rattle.characters.specs.Utf8.{charsAt}
 use Rattle.bridge.specs.Bridge.{Reach}
 use Rattle.string_units.specs.Units.{UnitAt}

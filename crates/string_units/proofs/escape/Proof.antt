@@ -1,7 +1,7 @@
 use mathlib.Core.Path.{sym, _∙_, subst}
 use Prim.Native.Nat.{ℕ}
 use mathlib.Core.List.{[], _∷_}
-use Rattle.cursor.specs.Strings.{Unit as StringUnit}
+use Rattle.cursor.specs.Strings.{StringUnit}
 use Rattle.bridge.specs.Bridge.{NextAt, Reach}
 use Rattle.string_units.specs.Units.{UnitAt}
 use Rattle.escapes.proofs.Digits.{value-some, value-none}
