@@ -1,8 +1,5 @@
--- The listing of document 01's sample, and the two short lines: the definitions give what the paper shows. Assumes nothing.
+-- The listings of document 01's samples (specs/Sample.antt): the definitions give what the paper shows. Assumes nothing.
 use mathlib.Core.Path.{_≡_, refl}
-use mathlib.Core.List.{List, [], _∷_, _++_}
-use Prim.Native.Nat.{ℕ}
-use lib.ListN.{replicate}
 use Rattle.characters.specs.Choice.{within}
 use Rattle.characters.specs.Utf8.{isTail, twoOf, badClass, width, sequence, firstOf, after as afterChar, charsPast, charsOf, encodeChar, encode, checkAfter, checkPast, firstBad}
 use Rattle.characters.specs.Space.{isWhite}
@@ -18,34 +15,23 @@ use Rattle.rules.specs.Segment.{wordEnd}
 use Rattle.rules.specs.Comments.{whiteSpace}
 use Rattle.byte_order_mark.specs.Mark.{hasMark, markLength, afterMark}
 use Rattle.rules.specs.Script.{scriptText, scriptTokens, scriptErrors, scriptClosed}
-use Rattle.spellings.specs.Spelling.{ascii}
 use Rattle.room.specs.Needed.{needed}
 use Rattle.questions.specs.Questions.{askUtf8, askText}
 use Rattle.lexer.specs.Tokenize.{_then_, measureAnswer}
 use Rattle.listing_fields.specs.Numbers.{decimalIn, decimal, hexDigit, hexOf}
 use Rattle.listing_fields.specs.Fields.{field, spanFields, textField}
-use Rattle.listing_lines.specs.Lines.{ending, headOf, tokenLine, tokenLines, errorLines, closedLine, refusedLine}
+use Rattle.listing_lines.specs.Lines.{headOf, tokenLine, tokenLines, errorLines, closedLine, refusedLine}
 use Rattle.listing.specs.Listing.{answerLines, listing}
+use Rattle.listing.specs.Sample.{SAMPLE-SCRIPT, SAMPLE, BAD-SCRIPT, REFUSED-SAMPLE, LONG-SCRIPT, LONG-SAMPLE}
 
--- "For `val a=1` without a line feed it writes:"
-abbrev SAMPLE : List ℕ
-SAMPLE =
-    ascii "T 6 0 2 1 1 1 3 76616c" ++ ending
-    ++ (ascii "T 5 4 4 1 5 1 5 61" ++ ending)
-    ++ (ascii "T 76 5 5 1 6 1 6 3d" ++ ending)
-    ++ (ascii "T 0 6 7 1 7 1 8 31" ++ ending)
-    ++ (ascii "T 124 7 7 1 8 1 8 -" ++ ending)
-    ++ (ascii "closed" ++ ending)
-
-pub sample : listing (ascii "val a=1") ≡ SAMPLE
+pub sample : listing SAMPLE-SCRIPT ≡ SAMPLE
 unfolding one isHexDigit hexValue THIRDS twoMarks later after isSpace skip skips skippedLineColumn wordEnd whiteSpace within width isWhite single earlier merge oneOf isEmpty sameText isDigit isLetter isIdentStart isIdentPart next startsWith run KEYWORDS keywordIn lookupKeyword MARKS lookup radix isDigitOrUnderscore fraction exponent decimalKind decimalNumber zeroThen parseNumber parseIdentifierOrKeyword markSpelling markWith markIn parseMark segment segments advance advances segmentSpan tokensOf errorsOf place tokens errors closed sequence firstOf afterChar charsPast charsOf encodeChar encode hasMark markLength afterMark scriptText scriptTokens scriptErrors scriptClosed checkAfter checkPast firstBad needed askUtf8 askText _then_ measureAnswer decimalIn decimal hexDigit hexOf field spanFields textField headOf tokenLine tokenLines errorLines closedLine answerLines listing
 sample = refl
 
--- "C3; ED A0 80 | 2 figure 0; 2 figure 0"
-pub refused-sample : listing (0xC3 ∷ []) ≡ ascii "refused 2 0" ++ ending
+pub refused-sample : listing BAD-SCRIPT ≡ REFUSED-SAMPLE
 unfolding within sequence isTail twoOf firstOf checkAfter checkPast firstBad badClass askUtf8 askText _then_ measureAnswer decimalIn decimal field refusedLine answerLines listing
 refused-sample = refl
 
-pub long-sample : listing (replicate 1025 32) ≡ ascii "long" ++ ending
+pub long-sample : listing LONG-SCRIPT ≡ LONG-SAMPLE
 unfolding listing
 long-sample = refl
