@@ -2,19 +2,18 @@
 use mathlib.Core.Path.{_≡_, refl, sym, _∙_, ap}
 use mathlib.Core.Bool.{true, false}
 use mathlib.Core.List.{List, [], _∷_}
-use mathlib.Core.Logic.{_↔_}
 use Prim.Native.Nat.{ℕ, _+_, _≤_, _<_, zero-le}
 use native.Mathlib.Omega.{arith}
 use lib.ListN.{length, take, drop}
 use lib.Seq.{take-append-seam}
-use Rattle.byte_order_mark.specs.Mark.{hasMark}
 use Rattle.rules.specs.Tokens.{TokenizeError}
 use Rattle.rules.specs.Script.{LIMIT, accepted, scriptTokens, scriptErrors}
-use Rattle.rules.specs.Shift.{Joins}
+use Rattle.rules.specs.Bounds.{Small}
+use Rattle.rules.specs.Shift.{ClosedExactly}
 use Rattle.rules.proofs.Demand as demand
 use Rattle.records.specs.Answers.{Answer, got, refused}
 use Rattle.records.specs.Layout.{textBytes, errorBytes}
-use Rattle.record_lists.specs.Lists.{Small, tokensFrom, errorsFrom}
+use Rattle.record_lists.specs.Lists.{tokensFrom, errorsFrom}
 use Rattle.records.proofs.Filling.{errorsSize, length-errors}
 use Rattle.record_lists.proofs.Back.{tokens-back, errors-back}
 use Rattle.output.proofs.Lengths.{error-bounds}
@@ -72,16 +71,12 @@ module _ (s : List ℕ) (u : Used) where
       rw (q .0, q .2)
 
   -- Demand 3 of what is answered: a script is called closed exactly when it joins with every second script that fits.
-  needed-closed : accepted s ≡ true → u ≡ needed s → length s < LIMIT
-      → (u .closed ≡ true)
-      ↔ ((b : List ℕ) → accepted b ≡ true → hasMark b ≡ false → length s + 1 + length b ≤ LIMIT → Joins s b)
+  needed-closed : accepted s ≡ true → u ≡ needed s → length s < LIMIT → ClosedExactly s (u .closed)
   unfolding needed
   needed-closed ok e room = rw (ap (λ (v : Used). v .closed) e) (demand.closed-exactly s ok room)
 
   -- Measuring calls it so.
-  pub measure-closed-exactly : got u ≡ measureAnswer s → length s < LIMIT
-      → (u .closed ≡ true)
-      ↔ ((b : List ℕ) → accepted b ≡ true → hasMark b ≡ false → length s + 1 + length b ≤ LIMIT → Joins s b)
+  pub measure-closed-exactly : got u ≡ measureAnswer s → length s < LIMIT → ClosedExactly s (u .closed)
   measure-closed-exactly e room = needed-closed (measure-says e .0) (measure-says e .1) room
 
 -- ── Errors have bytes ──
@@ -143,7 +138,5 @@ module _ (s tokens texts errors : List ℕ) (u : Used) (tokens′ texts′ error
       go (Refused n f) q = absurd (got-is-not-refused u n f (sym q))
 
   -- Demand 3: tokenising calls a script closed exactly when it joins with every second script that fits.
-  pub closed-exactly : length s < LIMIT
-      → (u .closed ≡ true)
-      ↔ ((b : List ℕ) → accepted b ≡ true → hasMark b ≡ false → length s + 1 + length b ≤ LIMIT → Joins s b)
+  pub closed-exactly : length s < LIMIT → ClosedExactly s (u .closed)
   closed-exactly room = needed-closed s u (says .0) (says .1) room

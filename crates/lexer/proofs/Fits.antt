@@ -15,16 +15,16 @@ use Rattle.rules.specs.Tokens.{Token, TokenizeError}
 use Rattle.rules.specs.Tables.{KEYWORDS, MARKS, THIRDS, lookup, EOF}
 use Rattle.rules.specs.Marks as marks
 use Rattle.rules.specs.Lexer.{lexed, eof}
+use Rattle.rules.specs.Bounds.{Every, SpanFits, TokenSmall}
 use Rattle.rules.specs.Script.{accepted, scriptText, asBytes, scriptTokens, scriptErrors}
-use Rattle.rules.proofs.Every.{Every}
 use Rattle.rules.proofs.Sources.{Kinds, Suits, madeRight, wholeRight, fixedRight, partRight, keywordsRight, pairRight, columnRight, markRight, allRows, same-text}
 use Rattle.rules.proofs.Faults.{namesCode}
-use Rattle.rules.proofs.Fits.{SpanLow, TokenLow, tokens-low, error-spans-low, ErrorKnown, script-errors-known, TokenSourced, scriptBody, body-and-eof, script-tokens-sourced}
+use Rattle.rules.proofs.Fits.{tokens-low, error-spans-low, ErrorKnown, script-errors-known, TokenSourced, scriptBody, body-and-eof, script-tokens-sourced}
 use Rattle.spans.specs.declared.Position.{Position}
 use Rattle.spans.specs.declared.Span.{Span}
 use Rattle.records.specs.Kinds.{hasText, isMade, hasCode}
 use Rattle.spellings.specs.Spelling.{spellings, spelling}
-use Rattle.record_lists.specs.Lists.{SpanFits, TokenFits, Ended, ErrorFits, Each}
+use Rattle.record_lists.specs.Lists.{TokenFits, Ended, ErrorFits}
 
 -- ── The kinds ──
 
@@ -96,41 +96,29 @@ spelled k = plain-at spellings k all-plain
 
 -- ── Tokens ──
 
-span-fits : (s : Span) → SpanLow s → SpanFits s
-span-fits s l =
-    record {
-      start = l .start;
-      end = l .end;
-      «start_line» = l .«start_line»;
-      «start_col» = l .«start_col»;
-      «end_line» = l .«end_line»;
-      «end_col» = l .«end_col»;
-    }
-
-token-fits : (s : List ℕ) (t : Token) → TokenSourced kinds s t → TokenLow t → TokenFits s t
+token-fits : (s : List ℕ) (t : Token) → TokenSourced kinds s t → TokenSmall t → TokenFits s t
 token-fits s t h l =
     record {
       kind = known-low (t .kind) (h .fits);
-      span = span-fits (t .span) (l .span);
+      span = l .span;
       size = l .size;
       part = λ e m. record { inside = h .inside m e; same = h .part m e };
       fixed = λ e. h .fixed (fixed-not-made (t .kind) e) e ∙ spelled (t .kind);
     }
 
-eof-fits : (s : List ℕ) (p : Position) → TokenLow (asBytes (eof p)) → TokenFits s (asBytes (eof p))
+eof-fits : (s : List ℕ) (p : Position) → TokenSmall (asBytes (eof p)) → TokenFits s (asBytes (eof p))
 unfolding hasText isMade within spelling spellings encode
 eof-fits s p l =
     record {
       kind = omega arith;
-      span = span-fits (asBytes (eof p) .span) (l .span);
+      span = l .span;
       size = l .size;
       part = λ e m. absurd (false≢true e);
       fixed = λ e. refl;
     }
 
-each-fits : (s : List ℕ) (ts : List Token) (p : Position) → Every (TokenSourced kinds s) ts → Every TokenLow (ts ++ (asBytes (eof p) ∷ []))
-    → Each (TokenFits s) (ts ++ (asBytes (eof p) ∷ []))
-unfolding Each
+each-fits : (s : List ℕ) (ts : List Token) (p : Position) → Every (TokenSourced kinds s) ts → Every TokenSmall (ts ++ (asBytes (eof p) ∷ []))
+    → Every (TokenFits s) (ts ++ (asBytes (eof p) ∷ []))
 each-fits s [] p h l = (eof-fits s p (l .0), tt)
 each-fits s (t ∷ ts) p h l = (token-fits s t (h .0) (l .0), each-fits s ts p (h .1) (l .1))
 
@@ -142,26 +130,25 @@ each-ended s (t ∷ u ∷ ts) p h = (known-no-eof (t .kind) (h .0 .fits), each-e
 
 -- ── Errors ──
 
-error-fits : (e : TokenizeError) → ErrorKnown e → SpanLow (e .span) → ErrorFits e
+error-fits : (e : TokenizeError) → ErrorKnown e → SpanFits (e .span) → ErrorFits e
 unfolding hasCode namesCode
 error-fits e k l =
     record {
       low = k .low;
       high = k .high;
-      span = span-fits (e .span) l;
+      span = l;
       code = λ h. let (c, q, b) = k .code h in (c, q, omega arith);
       bare = k .bare;
     }
 
-each-error-fits : (es : List TokenizeError) → Every ErrorKnown es → Every (λ (e : TokenizeError). SpanLow (e .span)) es → Each ErrorFits es
-unfolding Each
+each-error-fits : (es : List TokenizeError) → Every ErrorKnown es → Every (λ (e : TokenizeError). SpanFits (e .span)) es → Every ErrorFits es
 each-error-fits [] h l = tt
 each-error-fits (e ∷ es) h l = (error-fits e (h .0) (l .0), each-error-fits es (h .1) (l .1))
 
 -- ── A script ──
 
 module _ (s : List ℕ) (ok : accepted s ≡ true) where
-  pub tokens-fit : Each (TokenFits s) (scriptTokens s)
+  pub tokens-fit : Every (TokenFits s) (scriptTokens s)
   tokens-fit =
       rw (body-and-eof s)
       (each-fits s (scriptBody s) (lexed (scriptText s) .stop) (script-tokens-sourced kinds kinds-suit s ok) (rw (body-and-eof s) at (tokens-low s ok)))
@@ -170,5 +157,5 @@ module _ (s : List ℕ) (ok : accepted s ≡ true) where
   tokens-ended =
       rw (body-and-eof s) (each-ended s (scriptBody s) (lexed (scriptText s) .stop) (script-tokens-sourced kinds kinds-suit s ok))
 
-  pub errors-fit : Each ErrorFits (scriptErrors s)
+  pub errors-fit : Every ErrorFits (scriptErrors s)
   errors-fit = each-error-fits (scriptErrors s) (script-errors-known s) (error-spans-low s ok)

@@ -10,11 +10,12 @@ use lib.ListN.{length, length-append}
 use Rattle.characters.specs.Choice.{if_then_else_, _is_}
 use Rattle.rules.specs.Tokens.{Token}
 use Rattle.rules.specs.Tables.{EOF}
+use Rattle.rules.specs.Bounds.{Every, Small}
 use Rattle.records.specs.Kinds.{hasText, isMade}
 use Rattle.records.specs.Answers.{got}
 use Rattle.record_reading.specs.Reading.{nextAt}
 use Rattle.records.specs.Layout.{madeText, textBytes, textOffset, recordOf, tokenBytesFrom, tokenBytes}
-use Rattle.record_lists.specs.Lists.{Small, TokenFits, Ended, Each}
+use Rattle.record_lists.specs.Lists.{TokenFits, Ended}
 use Rattle.records.proofs.Filling.{tokens-cons, texts-cons, length-record}
 use Rattle.record_lists.proofs.Back.{readOf, placeAfter, next-back}
 use Rattle.lexer.specs.Places.{Place, placeOf, placeTurn, placesFrom, Fills}
@@ -97,9 +98,9 @@ module _ (script s : List ℕ) (at used : ℕ) (t : Token) (ts : List Token) (b 
   places-turn n = rw (next-is, kind-read used t)
 
 -- From a token on.
-places-fill : (script s : List ℕ) (at used : ℕ) (ts : List Token) (n : ℕ) → Left s at used ts → Each (TokenFits script) ts → Ended ts
+places-fill : (script s : List ℕ) (at used : ℕ) (ts : List Token) (n : ℕ) → Left s at used ts → Every (TokenFits script) ts → Ended ts
     → length ts ≤ n → Fills used (placesFrom n s at) (used + length (textBytes ts))
-unfolding Each Ended
+unfolding Ended
 places-fill script s at used [] n b f e h = absurd e
 places-fill script s at used (t ∷ ts) zero b f e h = absurd (not-suc-le-zero h)
 places-fill script s at used (t ∷ []) (suc n) b f e h =
@@ -113,7 +114,7 @@ places-fill script s at used (t ∷ u ∷ ts) (suc n) b f e h =
     (rw (size script s at used t (u ∷ ts) b (f .0), ← add-assoc used (length (madeText t)) (length (textBytes (u ∷ ts)))) q))
 
 -- The places that the records of tokens tell fill the front of the text buffer, from 0 to the length of all texts made.
-pub places-filled : (script : List ℕ) (ts : List Token) (after : List ℕ) (n : ℕ) → Each (TokenFits script) ts → Ended ts → Small (length (textBytes ts))
+pub places-filled : (script : List ℕ) (ts : List Token) (after : List ℕ) (n : ℕ) → Every (TokenFits script) ts → Ended ts → Small (length (textBytes ts))
     → length ts ≤ n → Fills 0 (placesFrom n (tokenBytes ts ++ after) 0) (length (textBytes ts))
 unfolding tokenBytes
 places-filled script ts after n f e small h =

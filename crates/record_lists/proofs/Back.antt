@@ -12,12 +12,13 @@ use native.Mathlib.Omega.{arith}
 use Rattle.characters.specs.Choice.{if_then_else_, _is_}
 use Rattle.rules.specs.Tokens.{Token, TokenizeError}
 use Rattle.rules.specs.Tables.{EOF}
+use Rattle.rules.specs.Bounds.{Every, Small}
 use Rattle.records.specs.Kinds.{hasText, isMade, recordLength, hasCode, errorLength}
 use Rattle.records.specs.Answers.{Answer, got, refused, Turn}
 use Rattle.record_reading.specs.Reading.{kindAt, isWhole, recordAt, afterAt, nextAt, errorAt, nextErrorAt}
 use Rattle.record_texts.specs.Texts.{homeOf, isInside, partOf, textCheckAt, textAt}
 use Rattle.records.specs.Layout.{madeText, textBytes, textOffset, recordOf, tokenBytesFrom, tokenBytes, codeOf, errorRecordOf, errorBytes}
-use Rattle.record_lists.specs.Lists.{wordOf, tokenTurn, tokensFrom, errorOf, errorTurn, errorsFrom, Small, IsPart, TokenFits, Ended, ErrorFits, Each}
+use Rattle.record_lists.specs.Lists.{wordOf, tokenTurn, tokensFrom, errorOf, errorTurn, errorsFrom, IsPart, TokenFits, Ended, ErrorFits}
 use Rattle.records.specs.declared.answers.TokenRecord.{TokenRecord}
 use Rattle.records.specs.declared.answers.ErrorRecord.{ErrorRecord}
 use Rattle.records.proofs.Sets.{sets-front}
@@ -173,9 +174,9 @@ module _ (script texts s : List ℕ) (at used : ℕ) (t : Token) (ts : List Toke
   tokens-turn n = turn-gives (tokensFrom n script texts s) _ _ _ used at t next-is (word-is .0) (word-is .1)
 
 -- Where the buffers hold the records of tokens that end with EOF, a reader meets these tokens, and none after them.
-pub tokens-from : (script texts s : List ℕ) (at used : ℕ) (ts : List Token) (n : ℕ) → Buffers script texts s at used ts → Each (TokenFits script) ts → Ended ts
+pub tokens-from : (script texts s : List ℕ) (at used : ℕ) (ts : List Token) (n : ℕ) → Buffers script texts s at used ts → Every (TokenFits script) ts → Ended ts
     → length ts ≤ n → tokensFrom n script texts s at ≡ ts
-unfolding Each Ended
+unfolding Ended
 tokens-from script texts s at used [] n b f e h = absurd e
 tokens-from script texts s at used (t ∷ ts) zero b f e h = absurd (not-suc-le-zero h)
 tokens-from script texts s at used (t ∷ []) (suc n) b f e h =
@@ -188,7 +189,7 @@ tokens-from script texts s at used (t ∷ u ∷ ts) (suc n) b f e h =
 
 -- The whole buffers: tokens whose fields fit, written one after another from byte 0, are read back from place 0 as the same list.
 -- What follows in the buffers does not matter.
-pub tokens-back : (script : List ℕ) (ts : List Token) (after more : List ℕ) (n : ℕ) → Each (TokenFits script) ts → Ended ts → Small (length (textBytes ts))
+pub tokens-back : (script : List ℕ) (ts : List Token) (after more : List ℕ) (n : ℕ) → Every (TokenFits script) ts → Ended ts → Small (length (textBytes ts))
     → length ts ≤ n → tokensFrom n script (textBytes ts ++ more) (tokenBytes ts ++ after) 0 ≡ ts
 unfolding tokenBytes
 tokens-back script ts after more n f e small h =
@@ -279,9 +280,8 @@ module _ (s pre rest : List ℕ) (at : ℕ) (e : TokenizeError) (es : List Token
   error-total = omega (arith, length-append (errorRecordOf e) (errorBytes es), error-length)
 
 -- Where a buffer holds the records of errors, a reader meets them first, and then goes on after them.
-pub errors-from : (s pre rest : List ℕ) (at : ℕ) (es : List TokenizeError) (n : ℕ) → s ≡ pre ++ (errorBytes es ++ rest) → at ≡ length pre → Each ErrorFits es
+pub errors-from : (s pre rest : List ℕ) (at : ℕ) (es : List TokenizeError) (n : ℕ) → s ≡ pre ++ (errorBytes es ++ rest) → at ≡ length pre → Every ErrorFits es
     → errorsFrom (length es + n) s at ≡ es ++ errorsFrom n s (at + length (errorBytes es))
-unfolding Each
 errors-from s pre rest at [] n r a f = nothing-more s at n
 errors-from s pre rest at (e ∷ es) n r a f =
     rw (suc-add (length es) n)
@@ -297,14 +297,14 @@ errors-end s zero = refl
 errors-end s (suc n) = stopped-turn _ _ _ _ _ (end-refuses s)
 
 -- The whole buffer: errors whose fields fit, written one after another from byte 0, are read back from place 0 as the same list.
-pub errors-back : (es : List TokenizeError) (n : ℕ) → Each ErrorFits es → length es ≤ n → errorsFrom n (errorBytes es) 0 ≡ es
+pub errors-back : (es : List TokenizeError) (n : ℕ) → Every ErrorFits es → length es ≤ n → errorsFrom n (errorBytes es) 0 ≡ es
 errors-back es n f h =
     let m : n ≡ length es + (n - length es) = omega arith in
     let p = errors-from (errorBytes es) [] [] 0 es (n - length es) (sym (append-nil (errorBytes es))) refl f in
     rw m (p ∙ rw (zero-add (length (errorBytes es)), errors-end (errorBytes es) (n - length es), append-nil es))
 
 -- The same in a buffer that goes on after them, in as many turns as there are errors.
-pub errors-back-within : (es : List TokenizeError) (rest : List ℕ) → Each ErrorFits es → errorsFrom (length es) (errorBytes es ++ rest) 0 ≡ es
+pub errors-back-within : (es : List TokenizeError) (rest : List ℕ) → Every ErrorFits es → errorsFrom (length es) (errorBytes es ++ rest) 0 ≡ es
 errors-back-within es rest f =
     let p = errors-from (errorBytes es ++ rest) [] rest 0 es 0 refl refl f in
     rw (add-zero (length es)) at p ∙ none-more es _ _
@@ -312,14 +312,14 @@ errors-back-within es rest f =
 -- ── The lent buffers after writing at their fronts ──
 
 -- The tokens, read from buffers that hold them and keep what stood after them.
-pub tokens-written-back : (script : List ℕ) (ts : List Token) (tokens texts : List ℕ) (n : ℕ) → Each (TokenFits script) ts → Ended ts → Small (length (textBytes ts))
+pub tokens-written-back : (script : List ℕ) (ts : List Token) (tokens texts : List ℕ) (n : ℕ) → Every (TokenFits script) ts → Ended ts → Small (length (textBytes ts))
     → length (tokenBytes ts) ≤ length tokens → length (textBytes ts) ≤ length texts → length ts ≤ n
     → tokensFrom n script (sets texts 0 (textBytes ts)) (sets tokens 0 (tokenBytes ts)) 0 ≡ ts
 tokens-written-back script ts tokens texts n f e small a b h =
     rw (sets-front texts (textBytes ts) b, sets-front tokens (tokenBytes ts) a) (tokens-back script ts _ _ n f e small h)
 
 -- The errors, read from the part used of a buffer that holds them.
-pub errors-written-back : (es : List TokenizeError) (errors : List ℕ) (n : ℕ) → Each ErrorFits es → length (errorBytes es) ≤ length errors → length es ≤ n
+pub errors-written-back : (es : List TokenizeError) (errors : List ℕ) (n : ℕ) → Every ErrorFits es → length (errorBytes es) ≤ length errors → length es ≤ n
     → errorsFrom n (take (length (errorBytes es)) (sets errors 0 (errorBytes es))) 0 ≡ es
 errors-written-back es errors n f a h =
     rw (sets-front errors (errorBytes es) a, take-append-seam (errorBytes es) (drop (length (errorBytes es)) errors)) (errors-back es n f h)

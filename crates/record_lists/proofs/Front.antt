@@ -12,7 +12,7 @@ use Rattle.spans.specs.declared.Span.{Span}
 use Rattle.records.specs.Kinds.{isKind, hasText, recordLength, isErrorKind, hasCode, errorLength}
 use Rattle.records.specs.Records.{le32, pairBytes, spanBytes, headBytes, tokenRecord, errorRecord}
 use Rattle.record_reading.specs.Reading.{num32, spanAt, kindAt, isWhole, recordAt, isWholeError, errorAt}
-use Rattle.record_lists.specs.Lists.{Small, SpanFits}
+use Rattle.rules.specs.Bounds.{Small, SpanFits}
 use Rattle.records.proofs.Bytes.{length-token, length-error}
 
 whole : (v : ℕ) → v % 256 + v / 256 % 256 * 256 + v / 65536 % 256 * 65536 + v / 16777216 * 16777216 ≡ v

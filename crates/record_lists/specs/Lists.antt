@@ -1,16 +1,15 @@
 -- The lists that readers of the buffers meet, and the lists that the records hold whole.
 use mathlib.Core.Path.{_≡_}
-use Prim.Native.Nat.{ℕ, zero, suc, _+_, _≤_, _<_}
+use Prim.Native.Nat.{ℕ, zero, suc, _+_, _≤_}
 use mathlib.Core.Bool.{true, false}
 use mathlib.Core.List.{List, [], _∷_}
 use mathlib.Core.Option.{none, some}
 use lib.ListN.{length, take, drop}
 use Rattle.characters.specs.Choice.{if_then_else_, _is_}
 use Rattle.byte_order_mark.specs.Mark.{afterMark}
-use Rattle.spans.specs.declared.Span.{Span}
 use Rattle.rules.specs.Tokens.{Token, TokenizeError}
 use Rattle.rules.specs.Tables.{EOF, Error, UnexpectedCharacter, UnterminatedDocComment}
-use Rattle.records.specs.Fields.{WORD}
+use Rattle.rules.specs.Bounds.{Small, SpanFits}
 use Rattle.records.specs.Kinds.{hasText, isMade, hasCode}
 use Rattle.spellings.specs.Spelling.{spelling}
 use Rattle.records.specs.Answers.{Answer, got, refused}
@@ -53,18 +52,6 @@ errorsFrom (suc turns) s at = errorTurn (errorsFrom turns s) (nextErrorAt s at .
 
 -- ── The lists that records hold whole ──
 
--- The numbers that a field of a record holds.
-abbrev pub Small : ℕ → Type 0
-Small n = n < WORD
-
-pub record SpanFits (s : Span) : Type 0 where
-  pub start : Small (s .start)
-  pub end : Small (s .end)
-  pub «start_line» : Small (s .«start_line»)
-  pub «start_col» : Small (s .«start_col»)
-  pub «end_line» : Small (s .«end_line»)
-  pub «end_col» : Small (s .«end_col»)
-
 -- A text is the part of a buffer that begins at an offset.
 pub record IsPart (home : List ℕ) (offset : ℕ) (text : List ℕ) : Type 0 where
   pub inside : offset + length text ≤ length home
@@ -92,8 +79,3 @@ pub record ErrorFits (e : TokenizeError) : Type 0 where
   pub span : SpanFits (e .span)
   pub code : hasCode (e .kind) ≡ true → (c : ℕ) × (e .char ≡ some c) × Small c
   pub bare : hasCode (e .kind) ≡ false → e .char ≡ none
-
--- Each element of a list passes.
-unfoldable pub Each : {A : Type 0} → (A → Type 0) → List A → Type 0
-Each P [] = Unit {0}
-Each P (x ∷ xs) = P x × Each P xs

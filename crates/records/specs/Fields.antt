@@ -1,5 +1,6 @@
 -- The fields of a record (document 01, "Records"): where each lies, and how long the parts are, in bytes.
 use Prim.Native.Nat.{ℕ}
+pub use Rattle.rules.specs.Bounds.{WORD}
 
 -- Two numbers of 4 bytes each.
 abbrev pub PAIR : ℕ
@@ -51,7 +52,3 @@ LONGEST-TOKEN = WITH-TEXT
 
 abbrev pub LONGEST-ERROR : ℕ
 LONGEST-ERROR = WITH-CODE
-
--- The numbers below it are those that 4 bytes hold.
-abbrev pub WORD : ℕ
-WORD = 4294967296

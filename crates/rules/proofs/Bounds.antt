@@ -23,6 +23,7 @@ use Rattle.rules.specs.Strings.{parseRawString, Escape, hexCode, unicode
 use Rattle.rules.specs.Characters.{closeChar, charEscape, parseChar}
 use Rattle.rules.specs.Docs.{lineDoc, blockDoc, parseSlashOrComment}
 use Rattle.rules.specs.Lexer.{dollarBraces, parseDollar, segment, sizeBehindFirst, segments, after, tokensOf, errorsOf, place, lex, origin, lexed, eof, tokens, errors}
+use Rattle.rules.specs.Bounds.{charsOfAll}
 use Rattle.rules.proofs.Front.{Takes, slash-takes, dollar-takes, number-takes, name-takes, start-part, mark-takes, segment-takes}
 use Rattle.rules.proofs.Join.{size-fits, rest-is}
 
@@ -254,11 +255,6 @@ unfolding errors
 error-bound cs = omega (arith, lex-small 0 origin cs zero-le .1)
 
 -- ── Every character belongs to one segment ──
-
--- The characters of segments, one behind another.
-unfoldable pub charsOfAll : List Segment → Text
-charsOfAll [] = []
-charsOfAll (s ∷ ss) = s .chars ++ charsOfAll ss
 
 skipped-are-text : (k : ℕ) (cs : Text) → k ≤ length cs → charsOfAll (segments k cs) ≡ drop k cs
 unfolding segments charsOfAll

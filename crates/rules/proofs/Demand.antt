@@ -1,25 +1,25 @@
 -- Demand 3, over bytes: an accepted script that leaves room for a line feed is closed exactly when it joins with every second script
 -- that fits. Assumes nothing.
 use mathlib.Core.Path.{_≡_, refl, sym, ap, _∙_}
-use mathlib.Core.Logic.{_↔_}
-use mathlib.Core.Bool.{Bool, true, false, not}
+use mathlib.Core.Bool.{Bool, true, false, _&&_, not}
 use mathlib.Core.List.{List, [], _∷_, _++_, map, map-append, map-map, dropLast, append-nil}
 use Prim.Native.Nat.{ℕ, _+_, _≤_, _<_}
 use native.Mathlib.Omega.{arith}
+use borrow.Author.Tests.{le-leb, not-true}
 use lib.Dec.{leb}
-use lib.ListN.{length}
+use lib.ListN.{length, length-append}
 use Rattle.characters.specs.Choice.{within}
 use Rattle.characters.specs.Utf8.{isScalar, encodeChar, charsOf, isUtf8, isValid, firstBad, checkPast, bytes}
 use Rattle.byte_order_mark.specs.Mark.{hasMark, afterMark}
 use Rattle.characters.proofs.Choice.{and-both}
-use Rattle.characters.proofs.Texts.{chars-nil, chars-encoded, chars-append, valid-length}
+use Rattle.characters.proofs.Texts.{chars-nil, chars-encoded, chars-append, valid-length, ascii-utf8, utf8-append}
 use Rattle.byte_order_mark.proofs.Marks.{no-mark-chars, utf8-after-mark, after-mark-append}
 use Rattle.rules.specs.Text.{LF}
 use Rattle.rules.specs.Tokens.{Token}
 use Rattle.rules.specs.Lexer.{segments, place, origin, lexed, eof, tokens, errors, closed}
 use Rattle.rules.specs.Script.{LIMIT, accepted, scriptText, asBytes, scriptTokens, scriptErrors, scriptClosed}
-use Rattle.rules.specs.Shift.{shiftToken, joined, Joins}
-use Rattle.rules.proofs.Join.{drop-eof, TextsJoin, closed-joins}
+use Rattle.rules.specs.Shift.{shiftToken, joined, Joins, SecondFits, ClosedExactly}
+use Rattle.rules.proofs.Join.{whole, drop-eof, TextsJoin, closed-joins}
 use Rattle.rules.proofs.Tells.{Z, top}
 use Rattle.rules.proofs.Open.{furthest, open-parts}
 
@@ -38,6 +38,9 @@ pub accepted-utf8 : (a : List ℕ) → accepted a ≡ true → isUtf8 a ≡ true
 unfolding accepted
 accepted-utf8 a h = and-both (leb (length a) LIMIT) (isUtf8 a) h .1
 
+feed-utf8 : (b : List ℕ) → isUtf8 (LF ∷ b) ≡ isUtf8 b
+feed-utf8 b = ascii-utf8 LF b (omega arith)
+
 module _ (a : List ℕ) (valid : isUtf8 a ≡ true) where
   pub joined-text : (b : List ℕ) → hasMark b ≡ false → scriptText (joined a b) ≡ scriptText a ++ (LF ∷ scriptText b)
   unfolding scriptText
@@ -50,6 +53,23 @@ module _ (a : List ℕ) (valid : isUtf8 a ≡ true) where
   pub text-size : bytes (scriptText a) ≡ length (afterMark a)
   unfolding scriptText
   text-size = sym (valid-length (afterMark a) (utf8-after-mark a ∙ valid))
+
+-- ── The whole is accepted ──
+
+joined-length : (a b : List ℕ) → length (joined a b) ≡ length a + 1 + length b
+joined-length a b = omega (arith, length-append a (LF ∷ b))
+
+-- Behind an accepted script, a line feed and a text are accepted exactly if the text is UTF-8 and all is within the limit. A mark in
+-- front of the second is a character of the whole.
+pub joined-accepted : (a b : List ℕ) → accepted a ≡ true → accepted (joined a b) ≡ (leb (length a + 1 + length b) LIMIT && isUtf8 b)
+unfolding accepted
+joined-accepted a b h =
+    rw (joined-length a b, utf8-append a (LF ∷ b) (accepted-utf8 a h), feed-utf8 b)
+
+-- A second script that fits: the whole is accepted.
+pub whole-accepted : (a b : List ℕ) → accepted a ≡ true → SecondFits a b → accepted (joined a b) ≡ true
+whole-accepted a b h f =
+    joined-accepted a b h ∙ rw (le-leb (length a + 1 + length b) LIMIT (f .within-limit), accepted-utf8 b (f .second-accepted))
 
 -- ── Tokens with their texts as bytes ──
 
@@ -69,6 +89,15 @@ texts-join a b valid none j =
           rw (joined-text a valid b none, j .tokens-join, text-size a valid, map-append asBytes, map-drop asBytes, shift-bytes);
       errors-join = rw (joined-text a valid b none, j .errors-join, text-size a valid);
     }
+
+-- ── The whole's end ──
+
+-- Behind a closed first, the whole is closed exactly if the second is.
+pub joined-closed : (a b : List ℕ) → isUtf8 a ≡ true → hasMark b ≡ false → scriptClosed a ≡ true → scriptClosed (joined a b) ≡ scriptClosed b
+unfolding scriptClosed closed
+joined-closed a b valid none c =
+    let o = not-true (lexed (scriptText a) .open-end) c in
+    rw (joined-text a valid b none, whole (scriptText a) (scriptText b) o, o)
 
 -- ── An empty second script ──
 
@@ -126,17 +155,18 @@ script-open-parts a valid o j = open-parts (scriptText a) o same-ends same-error
 
 -- ── Demand 3 ──
 
-pub closed-exactly : (a : List ℕ) → accepted a ≡ true → length a < LIMIT
-    → (scriptClosed a ≡ true)
-    ↔ ((b : List ℕ) → accepted b ≡ true → hasMark b ≡ false → length a + 1 + length b ≤ LIMIT → Joins a b)
+pub closed-exactly : (a : List ℕ) → accepted a ≡ true → length a < LIMIT → ClosedExactly a (scriptClosed a)
 unfolding scriptClosed closed
 closed-exactly a h room = (
-  λ c b _ none _. texts-join a b valid none (closed-joins (scriptText a) (scriptText b) c),
-  λ j. go (lexed (scriptText a) .open-end) refl (j [] empty-accepted no-mark-nil (omega arith)),
+  λ c b f. texts-join a b valid (f .second-unmarked) (closed-joins (scriptText a) (scriptText b) c),
+  λ j. go (lexed (scriptText a) .open-end) refl (j [] empty-fits),
 )
   where
     valid : isUtf8 a ≡ true
     valid = accepted-utf8 a h
+
+    empty-fits : SecondFits a []
+    empty-fits = record { second-accepted = empty-accepted; second-unmarked = no-mark-nil; within-limit = omega arith }
 
     go : (o : Bool) → lexed (scriptText a) .open-end ≡ o → Joins a [] → not o ≡ true
     go true e j = absurd (script-open-parts a valid e j)

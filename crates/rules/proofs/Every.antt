@@ -1,9 +1,6 @@
--- A property of each element of a list. Assumes nothing.
+-- Laws of `Every`, a property of each element of a list. Assumes nothing.
 use mathlib.Core.List.{List, [], _∷_, _++_, map}
-
-abbrev pub Every : {A : Type 0} → (A → Type 0) → List A → Type 0
-Every P [] = Unit {0}
-Every P (x ∷ xs) = P x × Every P xs
+use Rattle.rules.specs.Bounds.{Every}
 
 pub every-append : {A : Type 0} (P : A → Type 0) (xs ys : List A) → Every P xs → Every P ys → Every P (xs ++ ys)
 every-append P [] ys h g = g

@@ -21,8 +21,9 @@ use Rattle.rules.specs.Strings.{parseRawString, Escape, hexCode, unicode
 use Rattle.rules.specs.Characters.{closeChar, charEscape, parseChar}
 use Rattle.rules.specs.Docs.{lineDoc, blockDoc, parseSlashOrComment}
 use Rattle.rules.specs.Lexer.{dollarBraces, parseDollar, segment}
+use Rattle.rules.specs.Bounds.{Every}
 use Rattle.rules.proofs.Ahead.{is-eq}
-use Rattle.rules.proofs.Every.{Every, every-append}
+use Rattle.rules.proofs.Every.{every-append}
 
 -- The kinds that name a code point.
 unfoldable pub namesCode : ℕ → Bool

@@ -22,12 +22,13 @@ use Rattle.rules.specs.Tokens.{Token, TokenizeError}
 use Rattle.rules.specs.Segment.{Piece, Fault, Segment}
 use Rattle.rules.specs.Lexer.{segment, tokensOf, errorsOf, lexed, eof, tokens, errors}
 use Rattle.rules.specs.Script.{LIMIT, accepted, scriptText, asBytes, scriptTokens, scriptErrors}
+use Rattle.rules.specs.Bounds.{Every, textsSize, SpanFits, TokenSmall}
 use Rattle.rules.proofs.Placed.{span-plain}
 use Rattle.rules.proofs.Bounds.{token-bound, error-bound}
-use Rattle.rules.proofs.Every.{Every, every-weaken, every-map, every-both}
+use Rattle.rules.proofs.Every.{every-weaken, every-map, every-both}
 use Rattle.rules.proofs.Sources.{Kinds, Suits, Sourced, segment-sourced}
 use Rattle.rules.proofs.Faults.{namesCode, Known, segment-known}
-use Rattle.rules.proofs.Sizes.{chars-few, textBytes, text-bound}
+use Rattle.rules.proofs.Sizes.{chars-few, text-bound}
 use Rattle.rules.proofs.Spans.{Behind, text-every, Within, token-spans, error-spans}
 
 -- ── The text of an accepted script ──
@@ -59,8 +60,8 @@ unfoldable pub textLengths : List Token → ℕ
 textLengths [] = 0
 textLengths (t ∷ ts) = length (t .text) + textLengths ts
 
-lengths-bytes : (ts : List Token) → textLengths (map asBytes ts) ≡ textBytes ts
-unfolding textLengths textBytes
+lengths-bytes : (ts : List Token) → textLengths (map asBytes ts) ≡ textsSize ts
+unfolding textLengths textsSize
 lengths-bytes [] = refl
 lengths-bytes (t ∷ ts) = omega (arith, lengths-bytes ts, encode-length (t .text))
 
@@ -82,18 +83,7 @@ module _ (s : List ℕ) (ok : accepted s ≡ true) where
 
 -- ── Fields of 32 bits ──
 
-abbrev pub Low : ℕ → Type 0
-Low n = n < 4294967296
-
-pub record SpanLow (s : Span) : Type 0 where
-  pub start : Low (s .start)
-  pub end : Low (s .end)
-  pub «start_line» : Low (s .«start_line»)
-  pub «start_col» : Low (s .«start_col»)
-  pub «end_line» : Low (s .«end_line»)
-  pub «end_col» : Low (s .«end_col»)
-
-within-low : (n : ℕ) (s : Span) → n ≤ 1 + LIMIT → Within n s → SpanLow s
+within-low : (n : ℕ) (s : Span) → n ≤ 1 + LIMIT → Within n s → SpanFits s
 within-low n s h w =
     record {
       start = omega (arith, w .start-low);
@@ -104,27 +94,22 @@ within-low n s h w =
       «end_col» = omega (arith, w .end-col-low);
     }
 
--- A token's span and the length of its text.
-pub record TokenLow (t : Token) : Type 0 where
-  pub span : SpanLow (t .span)
-  pub size : Low (length (t .text))
-
-each-size : (n : ℕ) (ts : List Token) → textBytes ts ≤ n → Every (λ (t : Token). bytes (t .text) ≤ n) ts
-unfolding textBytes
+each-size : (n : ℕ) (ts : List Token) → textsSize ts ≤ n → Every (λ (t : Token). bytes (t .text) ≤ n) ts
+unfolding textsSize
 each-size n [] h = tt
 each-size n (t ∷ ts) h = (omega arith, each-size n ts (omega arith))
 
-pub tokens-low : (s : List ℕ) → accepted s ≡ true → Every TokenLow (scriptTokens s)
+pub tokens-low : (s : List ℕ) → accepted s ≡ true → Every TokenSmall (scriptTokens s)
 unfolding scriptTokens
 tokens-low s ok =
     let cs = scriptText s in
     let n = script-low s ok in
-    every-map asBytes _ TokenLow
+    every-map asBytes _ TokenSmall
     (λ (t : Token) (w, b). record { span = within-low (1 + bytes cs) (t .span) (omega arith) w; size = omega (arith, encode-length (t .text)) })
     (tokens cs)
     (every-both _ _ (tokens cs) (token-spans cs) (each-size (2 * bytes cs + 2) (tokens cs) (text-bound cs)))
 
-pub error-spans-low : (s : List ℕ) → accepted s ≡ true → Every (λ (e : TokenizeError). SpanLow (e .span)) (scriptErrors s)
+pub error-spans-low : (s : List ℕ) → accepted s ≡ true → Every (λ (e : TokenizeError). SpanFits (e .span)) (scriptErrors s)
 unfolding scriptErrors
 error-spans-low s ok =
     let cs = scriptText s in

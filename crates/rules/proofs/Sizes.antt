@@ -27,6 +27,7 @@ use Rattle.rules.specs.Strings.{parseRawString, Escape, hexCode, charOf,
 use Rattle.rules.specs.Characters.{closeChar, charEscape, parseChar}
 use Rattle.rules.specs.Docs.{trimStart, trimEnd, trim, stripStars, addToFirst, lines, joinLines, cleanLine, cleanDoc, lineDoc, blockDoc, parseSlashOrComment}
 use Rattle.rules.specs.Lexer.{dollarBraces, parseDollar, segment, sizeBehindFirst, segments, after, tokensOf, place, lex, origin, lexed, eof, tokens}
+use Rattle.rules.specs.Bounds.{textsSize}
 use Rattle.rules.proofs.Front.{starts-split, upTo-splits, run-splits, segment-takes}
 use Rattle.rules.proofs.Join.{size-fits, rest-is}
 
@@ -327,18 +328,13 @@ segment-fits c cs =
     (λ _. if-all TextsFit (isDigit c) (λ _. number-fits (c ∷ cs))
     (λ _. if-all TextsFit (isIdentStart c) (λ _. name-fits (c ∷ cs)) (λ _. mark-fits c cs)))))))
 
--- The bytes of the texts of all tokens.
-unfoldable pub textBytes : List Token → ℕ
-textBytes [] = 0
-textBytes (t ∷ ts) = bytes (t .text) + textBytes ts
-
-texts-append : (ts us : List Token) → textBytes (ts ++ us) ≡ textBytes ts + textBytes us
-unfolding textBytes
+texts-append : (ts us : List Token) → textsSize (ts ++ us) ≡ textsSize ts + textsSize us
+unfolding textsSize
 texts-append [] us = omega arith
 texts-append (t ∷ ts) us = omega (arith, texts-append ts us)
 
-texts-of : (p : Position) (s : Segment) (xs : List Piece) → textBytes (tokensOf p s xs) ≡ pieceBytes xs
-unfolding textBytes tokensOf pieceBytes
+texts-of : (p : Position) (s : Segment) (xs : List Piece) → textsSize (tokensOf p s xs) ≡ pieceBytes xs
+unfolding textsSize tokensOf pieceBytes
 texts-of p s [] = refl
 texts-of p s (x ∷ xs) = omega (arith, texts-of p s xs)
 
@@ -362,8 +358,8 @@ no-bytes t e = rw e
 
 -- Nothing but an open segment has more than twice its bytes, and nothing follows that.
 lex-texts : (k : ℕ) (p : Position) (cs : Text) → k ≤ length cs
-    → textBytes (lex k p cs .body) ≤ 2 * bytes (drop k cs) + min 2 (2 * bytes (drop k cs))
-unfolding segments place textBytes
+    → textsSize (lex k p cs .body) ≤ 2 * bytes (drop k cs) + min 2 (2 * bytes (drop k cs))
+unfolding segments place textsSize
 lex-texts k p [] h = zero-le
 lex-texts (suc k) p (c ∷ cs) h = lex-texts k p cs (omega arith)
 lex-texts zero p (c ∷ cs) h =
@@ -373,8 +369,8 @@ lex-texts zero p (c ∷ cs) h =
   where
     go : (o : Bool) → segment (c ∷ cs) .open-end ≡ o
         → pieceBytes (segment (c ∷ cs) .pieces) ≤ 2 * bytes (segment (c ∷ cs) .chars) + (if o then 2 else 0)
-        → (ts : List Token) → textBytes ts ≤ 2 * bytes (drop (sizeBehindFirst (segment (c ∷ cs) .chars)) cs) + min 2 (2 * bytes (drop (sizeBehindFirst (segment (c ∷ cs) .chars)) cs))
-        → textBytes (tokensOf p (segment (c ∷ cs)) (segment (c ∷ cs) .pieces) ++ ts) ≤ 2 * bytes (c ∷ cs) + min 2 (2 * bytes (c ∷ cs))
+        → (ts : List Token) → textsSize ts ≤ 2 * bytes (drop (sizeBehindFirst (segment (c ∷ cs) .chars)) cs) + min 2 (2 * bytes (drop (sizeBehindFirst (segment (c ∷ cs) .chars)) cs))
+        → textsSize (tokensOf p (segment (c ∷ cs)) (segment (c ∷ cs) .pieces) ++ ts) ≤ 2 * bytes (c ∷ cs) + min 2 (2 * bytes (c ∷ cs))
     go true e f ts ih =
         let none-left : drop (sizeBehindFirst (segment (c ∷ cs) .chars)) cs ≡ [] = rest-is c cs ∙ segment-takes c cs .all e in
         let z : bytes (drop (sizeBehindFirst (segment (c ∷ cs) .chars)) cs) ≡ 0 = no-bytes (drop (sizeBehindFirst (segment (c ∷ cs) .chars)) cs) none-left in
@@ -383,6 +379,6 @@ lex-texts zero p (c ∷ cs) h =
         omega (arith, texts-append (tokensOf p (segment (c ∷ cs)) (segment (c ∷ cs) .pieces)) ts, texts-of p (segment (c ∷ cs)) (segment (c ∷ cs) .pieces), split-bytes c cs, ap bytes (rest-is c cs))
 
 -- The texts of all tokens of a text of n bytes have at most 2 n + 2 bytes.
-pub text-bound : (cs : Text) → textBytes (tokens cs) ≤ 2 * bytes cs + 2
-unfolding tokens textBytes bytes
+pub text-bound : (cs : Text) → textsSize (tokens cs) ≤ 2 * bytes cs + 2
+unfolding tokens textsSize bytes
 text-bound cs = omega (arith, lex-texts 0 origin cs zero-le, texts-append (lexed cs .body) (eof (lexed cs .stop) ∷ []))

@@ -20,8 +20,9 @@ use Rattle.rules.specs.Strings.{parseRawString, stringRanOut, stringBrok
 use Rattle.rules.specs.Characters.{closeChar, charEscape, parseChar}
 use Rattle.rules.specs.Docs.{lineDoc, blockDoc, parseSlashOrComment}
 use Rattle.rules.specs.Lexer.{dollarBraces, parseDollar, segment}
+use Rattle.rules.specs.Bounds.{Every}
 use Rattle.rules.proofs.Ahead.{and-left, and-right, is-eq}
-use Rattle.rules.proofs.Every.{Every, every-append, every-weaken}
+use Rattle.rules.proofs.Every.{every-append, every-weaken}
 
 -- ── Texts that are the same ──
 

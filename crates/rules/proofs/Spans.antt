@@ -18,9 +18,10 @@ use Rattle.rules.specs.Text.{Char, Text, LF}
 use Rattle.rules.specs.Tokens.{Token, TokenizeError}
 use Rattle.rules.specs.Segment.{Piece, Fault, Segment}
 use Rattle.rules.specs.Lexer.{segment, sizeBehindFirst, segments, advance, advances, skippedLineColumn, skip, skips, isSpace, after, currentSpan, span, placeIn, tokensOf, errorsOf, place, lex, origin, lexed, eof, tokens, errors}
+use Rattle.rules.specs.Bounds.{Every}
 use Rattle.rules.proofs.Front.{segment-takes}
 use Rattle.rules.proofs.Join.{size-fits, rest-is}
-use Rattle.rules.proofs.Every.{Every, every-append}
+use Rattle.rules.proofs.Every.{every-append}
 
 -- ── Positions in a text ──
 

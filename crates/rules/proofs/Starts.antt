@@ -20,7 +20,8 @@ use Rattle.rules.specs.Comments.{whiteSpace}
 use Rattle.rules.specs.Strings.{stringRanOut, stringBroken, stringEnded, Turn, stop, on, flush, stringEscape, braceInterp, nameInterp, isInterpStart, stringDollar, turn, follow, stringFrom, parseStringTokens, parseQuote}
 use Rattle.rules.specs.Characters.{closeChar, charEscape, parseChar}
 use Rattle.rules.specs.Lexer.{segment, sizeBehindFirst, segments, advances, after, span, tokensOf, place, lex, origin, lexed, eof, tokens}
-use Rattle.rules.proofs.Every.{Every, every-append}
+use Rattle.rules.specs.Bounds.{Every, StartsNeverFall}
+use Rattle.rules.proofs.Every.{every-append}
 use Rattle.rules.proofs.Join.{size-fits}
 use Rattle.rules.proofs.Placed.{span-plain, after-offset}
 use Rattle.rules.proofs.Bounds.{tokens-length, raw-one, mark-one, slash-one, dollar-one, number-one, name-one}
@@ -176,20 +177,15 @@ groups-rise zero p (c ∷ cs) h =
           (groups-rise (sizeBehindFirst (s .chars)) (after p s) cs (size-fits c cs)),
     )
 
--- The list of all tokens: no start is before the one before it.
-abbrev pub Sorted : ℕ → List Token → Type 0
-Sorted n [] = Unit {0}
-Sorted n (t ∷ ts) = (n ≤ t .span .start) × Sorted (t .span .start) ts
-
-sorted-weaken : (n m : ℕ) (ts : List Token) → m ≤ n → Sorted n ts → Sorted m ts
+sorted-weaken : (n m : ℕ) (ts : List Token) → m ≤ n → StartsNeverFall n ts → StartsNeverFall m ts
 sorted-weaken n m [] h r = tt
 sorted-weaken n m (t ∷ ts) h (q, r) = (omega arith, r)
 
-sorted-group : (n at : ℕ) (g ts : List Token) → n ≤ at → AllAt at g → Sorted at ts → Sorted n (g ++ ts)
+sorted-group : (n at : ℕ) (g ts : List Token) → n ≤ at → AllAt at g → StartsNeverFall at ts → StartsNeverFall n (g ++ ts)
 sorted-group n at [] ts h a r = sorted-weaken at n ts h r
 sorted-group n at (t ∷ g) ts h (e, a) r = (omega arith, rw e (sorted-group at at g ts (omega arith) a r))
 
-sorted-groups : (n : ℕ) (gs : List (List Token)) (q : Position) → Rising n gs (q .offset) → Sorted n (joinGroups gs ++ (eof q ∷ []))
+sorted-groups : (n : ℕ) (gs : List (List Token)) (q : Position) → Rising n gs (q .offset) → StartsNeverFall n (joinGroups gs ++ (eof q ∷ []))
 unfolding joinGroups single
 sorted-groups n [] q r = (r, tt)
 sorted-groups n (g ∷ gs) q (at, h, a, o, r) =
@@ -197,6 +193,6 @@ sorted-groups n (g ∷ gs) q (at, h, a, o, r) =
     (sorted-group n at g (joinGroups gs ++ (eof q ∷ [])) h a
     (sorted-weaken (suc at) at (joinGroups gs ++ (eof q ∷ [])) (omega arith) (sorted-groups (suc at) gs q r)))
 
-pub starts-never-fall : (cs : Text) → Sorted 0 (tokens cs)
+pub starts-never-fall : (cs : Text) → StartsNeverFall 0 (tokens cs)
 unfolding tokens
 starts-never-fall cs = rw (← (groups-are-body origin (segments 0 cs))) (sorted-groups 0 (groups origin (segments 0 cs)) (lexed cs .stop) (groups-rise 0 origin cs zero-le))

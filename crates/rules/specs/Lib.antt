@@ -13,3 +13,5 @@ pub mod Docs
 pub mod Lexer
 pub mod Script
 pub mod Shift
+pub mod Small
+pub mod Bounds

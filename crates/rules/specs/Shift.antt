@@ -1,16 +1,18 @@
 -- The shift of a script that stands behind another one and a line feed (document 01, "The shift"), and what it is to join two
--- scripts (demand 3).
+-- scripts and to be closed exactly (demand 3).
 use mathlib.Core.Path.{_≡_}
+use mathlib.Core.Logic.{_↔_}
+use mathlib.Core.Bool.{Bool, true, false}
 use mathlib.Core.List.{List, _∷_, _++_, map, dropLast}
-use Prim.Native.Nat.{ℕ, suc, _+_}
+use Prim.Native.Nat.{ℕ, suc, _+_, _≤_}
 use lib.ListN.{length}
 use Rattle.characters.specs.Choice.{if_then_else_, _is_}
-use Rattle.byte_order_mark.specs.Mark.{afterMark}
+use Rattle.byte_order_mark.specs.Mark.{hasMark, afterMark}
 use Rattle.spans.specs.declared.Span.{Span}
 use Rattle.rules.specs.Text.{LF}
 use Rattle.rules.specs.Tokens.{Token, TokenizeError}
 use Rattle.rules.specs.Lexer.{lexed}
-use Rattle.rules.specs.Script.{scriptText, scriptTokens, scriptErrors}
+use Rattle.rules.specs.Script.{LIMIT, accepted, scriptText, scriptTokens, scriptErrors}
 
 -- Columns on the second script's line 1 grow by 1. Other columns keep.
 unfoldable pub shiftColumn : ℕ → ℕ → ℕ
@@ -48,3 +50,16 @@ pub record Joins (a b : List ℕ) : Type 0 where
       scriptTokens (joined a b) ≡ dropLast (scriptTokens a) ++ map (shiftToken (length (afterMark a)) (lastLine a)) (scriptTokens b)
   pub errors-join :
       scriptErrors (joined a b) ≡ scriptErrors a ++ map (shiftError (length (afterMark a)) (lastLine a)) (scriptErrors b)
+
+-- ── Demand 3 ──
+
+-- A second script that may follow `a` and a line feed: accepted, without a mark in front, all within the limit.
+pub record SecondFits (a b : List ℕ) : Type 0 where
+  pub second-accepted : accepted b ≡ true
+  pub second-unmarked : hasMark b ≡ false
+  pub within-limit : length a + 1 + length b ≤ LIMIT
+
+-- "The lexer calls the first closed exactly when, whatever such second script follows, two things hold": `c` is what is said of
+-- the script `a`.
+abbrev pub ClosedExactly : List ℕ → Bool → Type 0
+ClosedExactly a c = (c ≡ true) ↔ ((b : List ℕ) → SecondFits a b → Joins a b)

@@ -14,7 +14,7 @@ use Rattle.rules.specs.Numbers.{wholePart, fraction, exponent, decimalKind, dec
 use Rattle.rules.specs.Names.{parseIdentifierOrKeyword}
 use Rattle.rules.specs.Marks.{unexpected, twoMarks, markWith, markIn, parseMark}
 use Rattle.rules.proofs.Ahead.{and-left, and-right}
-use Rattle.rules.proofs.Every.{Every}
+use Rattle.rules.specs.Bounds.{Every}
 use Rattle.rules.proofs.Sources.{allRows, found-right}
 use Rattle.records.specs.Kinds.{isMade}
 

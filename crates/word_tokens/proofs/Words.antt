@@ -15,7 +15,7 @@ use Rattle.rules.specs.Tokens.{Token}
 use Rattle.rules.specs.Tables.{DoubleColonT}
 use Rattle.rules.specs.Segment.{Segment, token}
 use Rattle.rules.specs.Lexer.{advances, span, tokensOf, errorsOf}
-use Rattle.rules.proofs.Every.{Every}
+use Rattle.rules.specs.Bounds.{Every}
 use Rattle.rules.proofs.Fits.{encode-ascii}
 use Rattle.cursor.specs.declared.Cursor.the-variants as cur
 use Rattle.records.specs.Kinds.{hasText}
