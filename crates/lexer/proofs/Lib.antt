@@ -2,3 +2,4 @@ pub mod Answers
 pub mod Fits
 pub mod Places
 pub mod Back
+pub mod Joining
