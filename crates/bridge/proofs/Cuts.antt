@@ -10,7 +10,7 @@ use native.Mathlib.Numerals.{add-one}
 use Rattle.characters.specs.Utf8.{charsAt}
 use Rattle.characters.proofs.Characters.{chars-ascii}
 use Rattle.rules.specs.Text.{Char, Text}
-use Rattle.rules.specs.Scan.{next, Part, run, one, nothing, takes, _and-then_}
+use Rattle.rules.specs.Scan.{next, Part, run, oneChar, nothing, takes, _and-then_}
 use Rattle.bridge.specs.Bridge.{Low, Flat, Cut}
 use Rattle.bridge.proofs.Tests.{low-weak}
 use Rattle.bridge.proofs.Bytes.{byte-cons, byte-next, past-end}
@@ -22,8 +22,8 @@ unfolding run next
 run-none f [] e = refl
 run-none f (c ∷ cs) e = rw e
 
-pub one-none : (f : Char → Bool) (cs : Text) → next f cs ≡ false → one f cs ≡ nothing cs
-unfolding one next
+pub one-none : (f : Char → Bool) (cs : Text) → next f cs ≡ false → oneChar f cs ≡ nothing cs
+unfolding oneChar next
 one-none f [] e = refl
 one-none f (c ∷ cs) e = rw e
 
@@ -116,8 +116,8 @@ module _ (f : Char → Bool) (low : Low 11 f) (s : List ℕ) where
   run-end at l h = run-stop at h (past-end f (low-weak f low) s at l)
 
   -- One character that passes, or none.
-  pub one-more : (at : ℕ) → f (getD s at 0) ≡ true → Cut s at (one f (charsAt s at)) (at + 1)
-  unfolding one
+  pub one-more : (at : ℕ) → f (getD s at 0) ≡ true → Cut s at (oneChar f (charsAt s at)) (at + 1)
+  unfolding oneChar
   one-more at t =
       let q = low (getD s at 0) t in
       let b = byte-cons f (low-weak f low) s at t in
@@ -125,6 +125,6 @@ module _ (f : Char → Bool) (low : Low 11 f) (s : List ℕ) where
       rw (b .1, t)
       (cut-cons s at (nothing (charsAt s (at + 1))) (at + 1) h (q .0) (q .1) (cut-nothing s (at + 1) (omega arith)))
 
-  pub one-stop : (at : ℕ) → at ≤ length s → f (getD s at 0) ≡ false → Cut s at (one f (charsAt s at)) at
+  pub one-stop : (at : ℕ) → at ≤ length s → f (getD s at 0) ≡ false → Cut s at (oneChar f (charsAt s at)) at
   one-stop at h t =
       rw (one-none f (charsAt s at) (byte-next f (low-weak f low) s at ∙ t)) (cut-nothing s at h)

@@ -1,6 +1,8 @@
 // The byte-order mark.
 ghost use mathlib.Core.Path.{_≡_};
+ghost use denote.Ref.{ptr};
 ghost use Rattle.byte_order_mark.specs.Mark.{hasMark, markLength, afterMark};
+ghost use Rattle.byte_order_mark.specs.Slices.{bytesBehind};
 use characters::utf8::byte_at;
 
 pub fn has_mark(text: &[u8]) -> bool
@@ -27,6 +29,7 @@ pub fn mark_length(text: &[u8]) -> usize
 // The text after its mark.
 pub fn after_mark(text: &[u8]) -> &[u8]
     ensures { λ r. ⌜ now r ≡ afterMark (now (text .entry)) ⌝ }
+    ensures { λ r. ⌜ ptr r ≡ bytesBehind (markLength (now (text .entry))) (ptr (text .entry)) ⌝ }
 {
     let n = mark_length(text);
     &text[n..]

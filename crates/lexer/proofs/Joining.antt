@@ -1,14 +1,16 @@
 -- Demand 3 over three calls of tokenising, from their contracts alone. Assumes nothing.
 use mathlib.Core.Path.{_≡_, refl, sym, _∙_, ap}
-use mathlib.Core.Bool.{true, false}
+use mathlib.Core.Bool.{true, false, false≢true}
 use mathlib.Core.List.{List, [], _∷_, _++_, map, dropLast, append-nil}
-use Prim.Native.Nat.{ℕ, _+_, _≤_}
+use Prim.Native.Nat.{ℕ, _+_, _≤_, _<_}
 use native.Mathlib.Omega.{arith}
 use borrow.Author.Tests.{leb-true}
 use lib.Dec.{leb}
 use lib.ListN.{length, length-append, length-map}
 use Rattle.characters.specs.Choice.{within}
-use Rattle.characters.specs.Utf8.{isUtf8, encode}
+use Rattle.characters.specs.Utf8.{firstBad, isValid, isUtf8}
+use Rattle.characters.specs.declared.Checked.{Checked}
+use Rattle.characters.specs.declared.Checked.the-variants.{Valid, BadAt}
 use Rattle.characters.proofs.Choice.{and-both}
 use Rattle.byte_order_mark.specs.Mark.{afterMark}
 use Rattle.spans.specs.Span.{single}
@@ -21,12 +23,17 @@ use Rattle.rules.proofs.Join.{drop-eof}
 use Rattle.rules.proofs.Fits.{scriptBody, body-and-eof}
 use Rattle.rules.proofs.Demand as demand
 use Rattle.records.specs.Fields.{HEAD}
+use Rattle.records.specs.Answers.{got}
 use Rattle.records.specs.Kinds.{hasText, isMade, recordLength}
 use Rattle.records.specs.Layout.{madeText, textBytes, tokenBytes, errorBytes}
 use Rattle.records.proofs.Filling.{texts-append, tokensSize, errorsSize, length-tokens, length-errors}
 use Rattle.room.specs.declared.Used.{Used}
 use Rattle.room.specs.Needed.{needed}
-use Rattle.lexer.specs.Joining.{Call, Answered, tokensMet, errorsMet, lastStartLine, Following, firstSize, firstLine, CallsJoin}
+use Rattle.questions.specs.declared.Asked.the-variants.{Yes}
+use Rattle.questions.specs.Questions.{askText, askRoom}
+use Rattle.questions.proofs.Questions.{text-valid, room-yes}
+use Rattle.lexer.specs.Tokenize.{_then_, tokenizeAnswer, bufferAfter}
+use Rattle.lexer.specs.Joining.{Call, Answered, tokensMet, errorsMet, lastStartLine, Following, CallsJoin, CallsExactly}
 use Rattle.lexer.proofs.Back as back
 
 -- ── Lists ──
@@ -254,3 +261,81 @@ module _ (first second whole : Call) (f : Following first second whole) (closed 
               errors-size-shift n l (scriptErrors b),
             );
       }
+
+-- ── An accepted script has a call that is answered with yes ──
+
+accepted-yes : (s : List ℕ) → accepted s ≡ true → askText s ≡ Yes
+unfolding accepted isUtf8 isValid
+accepted-yes s h = go (firstBad s) refl (p .1)
+  where
+    p : (leb (length s) LIMIT ≡ true) × (isUtf8 s ≡ true)
+    p = and-both (leb (length s) LIMIT) (isUtf8 s) h
+
+    go : (x : Checked) → firstBad s ≡ x → isValid x ≡ true → askText s ≡ Yes
+    go Valid e q = sym (text-valid s (leb-true (length s) LIMIT (p .0)) e)
+    go (BadAt at) e q = absurd (false≢true q)
+
+-- A call with buffers that have just the bytes that it takes.
+abbrev callOf : List ℕ → Call
+callOf s =
+    record {
+      script = s;
+      used = needed s;
+      tokens-before = tokenBytes (scriptTokens s);
+      texts-before = textBytes (scriptTokens s);
+      errors-before = errorBytes (scriptErrors s);
+      tokens-after = bufferAfter (got (needed s)) (tokenBytes (scriptTokens s)) (tokenBytes (scriptTokens s));
+      texts-after = bufferAfter (got (needed s)) (textBytes (scriptTokens s)) (textBytes (scriptTokens s));
+      errors-after = bufferAfter (got (needed s)) (errorBytes (scriptErrors s)) (errorBytes (scriptErrors s));
+    }
+
+room-there : (s : List ℕ)
+    → askRoom (needed s) (length (tokenBytes (scriptTokens s))) (length (textBytes (scriptTokens s))) (length (errorBytes (scriptErrors s))) ≡ Yes
+unfolding needed
+room-there s = sym (room-yes (needed s) _ _ _ (omega arith) (omega arith) (omega arith))
+
+call-answered : (s : List ℕ) → accepted s ≡ true → Answered (callOf s)
+unfolding tokenizeAnswer _then_
+call-answered s h =
+    record {
+      answer = rw (accepted-yes s h, room-there s);
+      tokens-after = refl;
+      texts-after = refl;
+      errors-after = refl;
+    }
+
+-- ── Demand 3, both ways ──
+
+module _ (first : Call) (h : Answered first) (short : length (first .script) < LIMIT) where
+  abbrev script : List ℕ
+  script = first .script
+
+  following : (b : List ℕ) → SecondFits script b → Following first (callOf b) (callOf (joined script b))
+  following b f =
+      record {
+        first-answered = h;
+        second-answered = call-answered b (f .second-accepted);
+        whole-answered = call-answered (joined script b) (demand.whole-accepted script b (says first h) f);
+        second-unmarked = f .second-unmarked;
+        script-joined = refl;
+      }
+
+  scripts-join : (b : List ℕ) → SecondFits script b → CallsJoin first (callOf b) (callOf (joined script b)) → Joins script b
+  scripts-join b f j =
+      let g = following b f in
+      record {
+        tokens-join =
+            sym (tokens-met (callOf (joined script b)) (g .whole-answered))
+            ∙ (j .tokens-join ∙ rw (tokens-met first h, tokens-met (callOf b) (g .second-answered), eof-line script));
+        errors-join =
+            sym (errors-met (callOf (joined script b)) (g .whole-answered))
+            ∙ (j .errors-join ∙ rw (errors-met first h, tokens-met first h, errors-met (callOf b) (g .second-answered), eof-line script));
+      }
+
+  pub calls-exactly : CallsExactly first
+  calls-exactly = (
+    λ c second whole f. calls-join first second whole f c,
+    λ j. takes first h .closed
+        ∙ demand.closed-exactly script (says first h) short .1
+        (λ b f. scripts-join b f (j (callOf b) (callOf (joined script b)) (following b f))),
+  )

@@ -1,6 +1,7 @@
 -- Demand 3 over three calls of tokenising: of a first script, of a second one, and of both with a line feed between them. Nothing is
 -- named here but what the calls were given and what they gave.
 use mathlib.Core.Path.{_≡_}
+use mathlib.Core.Logic.{_↔_}
 use mathlib.Core.Bool.{true, false}
 use mathlib.Core.List.{List, [], _∷_, _++_, map, dropLast}
 use Prim.Native.Nat.{ℕ, _+_}
@@ -30,7 +31,8 @@ pub record Call : Type 0 where
 -- The contract of tokenising holds of it.
 abbrev pub Answered : Call → Type 0
 Answered k =
-    Tokenized (k .script) (k .tokens-before) (k .texts-before) (k .errors-before) (Done (k .used)) (k .tokens-after) (k .texts-after) (k .errors-after)
+    Tokenized (k .script) (k .tokens-before) (k .texts-before) (k .errors-before) (Done (k .used)) (k .tokens-after) (k .texts-after)
+    (k .errors-after)
 
 -- The tokens that a reader meets in its buffers.
 abbrev pub tokensMet : Call → List Token
@@ -74,3 +76,8 @@ pub record CallsJoin (first second whole : Call) : Type 0 where
   pub tokens-size : whole .used .tokens + HEAD ≡ first .used .tokens + second .used .tokens
   pub texts-size : whole .used .texts ≡ first .used .texts + second .used .texts
   pub errors-size : whole .used .errors ≡ first .used .errors + second .used .errors
+
+-- Demand 3, whole: the first call answers closed exactly when, whatever second script follows, the calls join.
+abbrev pub CallsExactly : Call → Type 0
+CallsExactly first =
+    (first .used .closed ≡ true) ↔ ((second whole : Call) → Following first second whole → CallsJoin first second whole)

@@ -5,7 +5,7 @@ use Rattle.characters.specs.Utf8.{isTail, twoOf, badClass, width, sequence, fir
 use Rattle.characters.specs.Space.{isWhite}
 use Rattle.spans.specs.Span.{single, earlier, later, merge}
 use Rattle.rules.specs.Text.{oneOf, isEmpty, sameText, isDigit, isLetter, isIdentStart, isIdentPart, isHexDigit, hexValue}
-use Rattle.rules.specs.Scan.{next, startsWith, run, one}
+use Rattle.rules.specs.Scan.{next, startsWith, run, oneChar}
 use Rattle.rules.specs.Tables.{KEYWORDS, keywordIn, lookupKeyword, MARKS, lookup, THIRDS}
 use Rattle.rules.specs.Numbers.{radix, isDigitOrUnderscore, fraction, exponent, decimalKind, decimal as decimalNumber, zeroThen, parseNumber}
 use Rattle.rules.specs.Names.{parseIdentifierOrKeyword}
@@ -25,7 +25,7 @@ use Rattle.listing.specs.Listing.{answerLines, listing}
 use Rattle.listing.specs.Sample.{SAMPLE-SCRIPT, SAMPLE, BAD-SCRIPT, REFUSED-SAMPLE, LONG-SCRIPT, LONG-SAMPLE}
 
 pub sample : listing SAMPLE-SCRIPT ≡ SAMPLE
-unfolding one isHexDigit hexValue THIRDS twoMarks later after isSpace skip skips skippedLineColumn wordEnd whiteSpace within width isWhite single earlier merge oneOf isEmpty sameText isDigit isLetter isIdentStart isIdentPart next startsWith run KEYWORDS keywordIn lookupKeyword MARKS lookup radix isDigitOrUnderscore fraction exponent decimalKind decimalNumber zeroThen parseNumber parseIdentifierOrKeyword markSpelling markWith markIn parseMark segment segments advance advances segmentSpan tokensOf errorsOf place tokens errors closed sequence firstOf afterChar charsPast charsOf encodeChar encode hasMark markLength afterMark scriptText scriptTokens scriptErrors scriptClosed checkAfter checkPast firstBad needed askUtf8 askText _then_ measureAnswer decimalIn decimal hexDigit hexOf field spanFields textField headOf tokenLine tokenLines errorLines closedLine answerLines listing
+unfolding oneChar isHexDigit hexValue THIRDS twoMarks later after isSpace skip skips skippedLineColumn wordEnd whiteSpace within width isWhite single earlier merge oneOf isEmpty sameText isDigit isLetter isIdentStart isIdentPart next startsWith run KEYWORDS keywordIn lookupKeyword MARKS lookup radix isDigitOrUnderscore fraction exponent decimalKind decimalNumber zeroThen parseNumber parseIdentifierOrKeyword markSpelling markWith markIn parseMark segment segments advance advances segmentSpan tokensOf errorsOf place tokens errors closed sequence firstOf afterChar charsPast charsOf encodeChar encode hasMark markLength afterMark scriptText scriptTokens scriptErrors scriptClosed checkAfter checkPast firstBad needed askUtf8 askText _then_ measureAnswer decimalIn decimal hexDigit hexOf field spanFields textField headOf tokenLine tokenLines errorLines closedLine answerLines listing
 sample = refl
 
 pub refused-sample : listing BAD-SCRIPT ≡ REFUSED-SAMPLE

@@ -10,7 +10,7 @@ use borrow.Author.Tests.{lt-ltb, le-ltb, eqb-true}
 use Rattle.characters.specs.Choice.{if_then_else_, _is_, within}
 use Rattle.characters.specs.Utf8.{charsAt}
 use Rattle.rules.specs.Text.{Char, Text, text, oneOf, isEmpty, isDigit}
-use Rattle.rules.specs.Scan.{next, run, one, nothing, _and-then_}
+use Rattle.rules.specs.Scan.{next, run, oneChar, nothing, _and-then_}
 use Rattle.rules.specs.Tables.{IntLiteral, FloatLiteral}
 use Rattle.rules.specs.Numbers.{hexPart, binaryPart, isDigitOrUnderscore, wholePart, fraction, exponent, maybeSuffix, radix, zeroThen, decimalKind, decimal, parseNumber}
 use Rattle.bridge.specs.Bridge.{Low, exactly, Cut}
@@ -40,20 +40,20 @@ module _ (s : List ℕ) (at : ℕ) (letters : Text) where
 
   -- The two characters of a prefix.
   pub zero-cuts : Low 1 (oneOf letters) → allPass (oneOf (text "xXbB")) letters ≡ true → zeroThen letters (charsAt s at) ≡ true
-      → Cut s at (one (oneOf (text "0")) (charsAt s at)) (at + 1)
-      × Cut s (at + 1) (one (oneOf (text "xXbB")) (charsAt s (at + 1))) (at + 2)
+      → Cut s at (oneChar (oneOf (text "0")) (charsAt s at)) (at + 1)
+      × Cut s (at + 1) (oneChar (oneOf (text "xXbB")) (charsAt s (at + 1))) (at + 2)
   unfolding oneOf
   zero-cuts low all t = go (next (exactly 48) (charsAt s at)) refl
     where
       go : (b : Bool) → next (exactly 48) (charsAt s at) ≡ b
-          → Cut s at (one (oneOf (text "0")) (charsAt s at)) (at + 1)
-          × Cut s (at + 1) (one (oneOf (text "xXbB")) (charsAt s (at + 1))) (at + 2)
+          → Cut s at (oneChar (oneOf (text "0")) (charsAt s at)) (at + 1)
+          × Cut s (at + 1) (oneChar (oneOf (text "xXbB")) (charsAt s (at + 1))) (at + 2)
       go true e =
           let z = next-cons (exactly 48) (low-is 1 48 (omega arith) (omega arith)) s at e in
           let n = next-cons (oneOf letters) low s (at + 1) (sym (zero-next e) ∙ t) in
           let m : at + 1 + 1 ≡ at + 2 = omega arith in (
             one-more (oneOf (text "0")) zero-low s at (rw (z .2)),
-            subst (λ (to : ℕ). Cut s (at + 1) (one (oneOf (text "xXbB")) (charsAt s (at + 1))) to) m
+            subst (λ (to : ℕ). Cut s (at + 1) (oneChar (oneOf (text "xXbB")) (charsAt s (at + 1))) to) m
                 (one-more (oneOf (text "xXbB")) radix-low s (at + 1)
                 (one-pass (oneOf (text "xXbB")) letters (getD s (at + 1) 0) all (n .2))),
           )
@@ -114,15 +114,15 @@ module _ (s : List ℕ) (at : ℕ) where
     pub power-there : at + 1 ≤ length s
     power-there = let p = power .0 in omega arith
 
-    pub exponent-cut : (mid to : ℕ) → Cut s (at + 1) (one isSign (charsAt s (at + 1))) mid
+    pub exponent-cut : (mid to : ℕ) → Cut s (at + 1) (oneChar isSign (charsAt s (at + 1))) mid
         → Cut s mid (run isDigit (charsAt s mid)) to → Cut s at (exponent (charsAt s at)) to
     unfolding exponent
     exponent-cut mid to x y =
         let b = power in
         let q = power-low (getD s at 0) (b .2) in
         rw (b .1, b .2)
-        (cut-cons s at ((one isSign and-then run isDigit) (charsAt s (at + 1))) to (b .0) (q .0) (q .1)
-        (cut-then s (at + 1) mid to (one isSign) (run isDigit) x y))
+        (cut-cons s at ((oneChar isSign and-then run isDigit) (charsAt s (at + 1))) to (b .0) (q .0) (q .1)
+        (cut-then s (at + 1) mid to (oneChar isSign) (run isDigit) x y))
 
 -- ── Numbers ──
 
@@ -163,8 +163,8 @@ decimal-word s at w f e to d x y z u =
 
 -- A number with a prefix.
 radix-word : (d : Char → Bool) (s : List ℕ) (at mid to : ℕ)
-    → Cut s at (one (oneOf (text "0")) (charsAt s at)) (at + 1)
-    → Cut s (at + 1) (one (oneOf (text "xXbB")) (charsAt s (at + 1))) (at + 2)
+    → Cut s at (oneChar (oneOf (text "0")) (charsAt s at)) (at + 1)
+    → Cut s (at + 1) (oneChar (oneOf (text "xXbB")) (charsAt s (at + 1))) (at + 2)
     → Cut s (at + 2) (run d (charsAt s (at + 2))) mid → Cut s mid (maybeSuffix (charsAt s mid)) to
     → WordAt s at (radix d (charsAt s at)) IntLiteral (to - at) (to - at)
 unfolding radix
@@ -172,10 +172,10 @@ radix-word d s at mid to x y z u =
     let rest = cut-then s (at + 2) mid to (run d) maybeSuffix z u in
     let long : at < to = omega (arith, rest .forth) in
     word-whole s at to IntLiteral
-    ((one (oneOf (text "0")) and-then one (oneOf (text "xXbB")) and-then run d and-then maybeSuffix) (charsAt s at))
+    ((oneChar (oneOf (text "0")) and-then oneChar (oneOf (text "xXbB")) and-then run d and-then maybeSuffix) (charsAt s at))
     refl long
-    (cut-then s at (at + 1) to (one (oneOf (text "0"))) (one (oneOf (text "xXbB")) and-then run d and-then maybeSuffix) x
-    (cut-then s (at + 1) (at + 2) to (one (oneOf (text "xXbB"))) (run d and-then maybeSuffix) y rest))
+    (cut-then s at (at + 1) to (oneChar (oneOf (text "0"))) (oneChar (oneOf (text "xXbB")) and-then run d and-then maybeSuffix) x
+    (cut-then s (at + 1) (at + 2) to (oneChar (oneOf (text "xXbB"))) (run d and-then maybeSuffix) y rest))
 
 module _ (s : List ℕ) (at : ℕ) where
   abbrev Prefix : Text → Bool → Type 0

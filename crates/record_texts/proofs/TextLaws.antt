@@ -9,11 +9,12 @@ use borrow.Author.Tests.{lt-leb, leb-true}
 use native.Mathlib.Nat.{add-sub-cancel-left}
 use native.Mathlib.Omega.{arith}
 use Rattle.characters.specs.Choice.{if_then_else_}
-use Rattle.byte_order_mark.specs.Mark.{afterMark}
+use Rattle.byte_order_mark.specs.Mark.{markLength, afterMark}
+use Rattle.byte_order_mark.specs.Slices.{bytesBehind}
 use Rattle.records.specs.Kinds.{hasText, isMade}
 use Rattle.records.specs.Answers.{Answer, got, refused}
 use Rattle.record_reading.specs.Reading.{isWhole, recordAt}
-use Rattle.record_texts.specs.Texts.{homeOf, isInside, partOf, textCheckAt, textAt}
+use Rattle.record_texts.specs.Texts.{homeOf, isInside, partOf, textCheckAt, textAt, homePlace, partPlace, textPlaceAt}
 use Rattle.records.specs.declared.answers.TokenRecord.{TokenRecord}
 use Rattle.records.specs.declared.answers.Refusal.{Refusal}
 use Rattle.record_reading.proofs.Places.{leb-same}
@@ -41,6 +42,14 @@ module _ (s : List ℕ) (o n : ℕ) where
   unfolding partOf
   part-none e = rw e
 
+  pub place-inside : (p : ℕ × ℕ) → isInside s o n ≡ true → bytesBehind o p ≡ partPlace p s o n
+  unfolding partPlace
+  place-inside p e = rw e
+
+  pub place-none : (p : ℕ × ℕ) → isInside s o n ≡ false → p ≡ partPlace p s o n
+  unfolding partPlace
+  place-none p e = rw e
+
 -- ── The buffer of a kind ──
 
 module _ (script texts : List ℕ) (k : ℕ) where
@@ -51,6 +60,15 @@ module _ (script texts : List ℕ) (k : ℕ) where
   pub home-script : isMade k ≡ false → homeOf script texts k ≡ afterMark script
   unfolding homeOf
   home-script e = rw e
+
+module _ (p q : ℕ × ℕ) (script : List ℕ) (k : ℕ) where
+  pub place-made : isMade k ≡ true → homePlace p q script k ≡ q
+  unfolding homePlace
+  place-made e = rw e
+
+  pub place-script : isMade k ≡ false → homePlace p q script k ≡ bytesBehind (markLength script) p
+  unfolding homePlace
+  place-script e = rw e
 
 -- ── The calls ──
 
@@ -63,6 +81,16 @@ module _ (script texts s : List ℕ) (at : ℕ) (r : TokenRecord) (w : isWhole s
       → out ≡ textAt script texts s at
   unfolding textAt
   text-part home out t h p = rw (w, ← e, t, ← h) p
+
+  pub text-fixed-place : (p q : ℕ × ℕ) → hasText (r .kind) ≡ false → p ≡ textPlaceAt p q script texts s at
+  unfolding textPlaceAt
+  text-fixed-place p q t = rw (w, ← e, t)
+
+  pub text-part-place : (p q : ℕ × ℕ) (home : List ℕ) (h-place out-place : ℕ × ℕ) → hasText (r .kind) ≡ true
+      → home ≡ homeOf script texts (r .kind) → h-place ≡ homePlace p q script (r .kind) → out-place ≡ partPlace h-place home (r .offset) (r .length)
+      → out-place ≡ textPlaceAt p q script texts s at
+  unfolding textPlaceAt
+  text-part-place p q home h-place out-place t h hp x = rw (w, ← e, t, ← h, ← hp) x
 
   pub check-fixed : hasText (r .kind) ≡ false → got tt ≡ textCheckAt script texts s at
   unfolding textCheckAt
@@ -83,6 +111,10 @@ module _ (script texts s : List ℕ) (at : ℕ) (w : isWhole s at ≡ false) whe
   pub text-none : [] ≡ textAt script texts s at
   unfolding textAt
   text-none = rw w
+
+  pub text-none-place : (p q : ℕ × ℕ) → p ≡ textPlaceAt p q script texts s at
+  unfolding textPlaceAt
+  text-none-place p q = rw w
 
   pub check-none : (x : Refusal) → (x .number ≡ 7) × (x .figure ≡ at) → refused (x .number) (x .figure) ≡ textCheckAt script texts s at
   unfolding textCheckAt

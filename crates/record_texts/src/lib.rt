@@ -1,9 +1,10 @@
 // The text call and its check.
 ghost use mathlib.Core.Path.{_≡_};
+ghost use denote.Ref.{ptr};
 ghost use lib.ListN.{length};
 ghost use Rattle.byte_order_mark.specs.Mark.{afterMark};
 ghost use Rattle.records.specs.Answers.{ofTextCheck};
-ghost use Rattle.record_texts.specs.Texts.{homeOf, isInside, partOf, textCheckAt, textAt};
+ghost use Rattle.record_texts.specs.Texts.{homeOf, isInside, partOf, textCheckAt, textAt, homePlace, partPlace, textPlaceAt};
 use record_reading::read;
 use records::answers::TextCheck;
 use records::kinds;
@@ -22,6 +23,7 @@ fn is_inside(s: &[u8], offset: usize, len: usize) -> bool
 // A part of a slice, empty where it does not lie inside.
 fn part(s: &[u8], offset: usize, len: usize) -> &[u8]
     ensures { λ r. ⌜ now r ≡ partOf (now (s .entry)) offset len ⌝ }
+    ensures { λ r. ⌜ ptr r ≡ partPlace (ptr (s .entry)) (now (s .entry)) offset len ⌝ }
 {
     if is_inside(s, offset, len) {
         return &s[offset..offset + len];
@@ -32,6 +34,7 @@ fn part(s: &[u8], offset: usize, len: usize) -> &[u8]
 // What the text of a kind is a part of: the script after its mark, or the text buffer.
 fn home<'a>(script: &'a [u8], texts: &'a [u8], kind: u8) -> &'a [u8]
     ensures { λ r. ⌜ now r ≡ homeOf (now (script .entry)) (now (texts .entry)) kind ⌝ }
+    ensures { λ r. ⌜ ptr r ≡ homePlace (ptr (script .entry)) (ptr (texts .entry)) (now (script .entry)) kind ⌝ }
 {
     if kinds::is_made(kind) {
         return texts;
@@ -60,6 +63,7 @@ pub fn text_check<'a>(script: &'a [u8], texts: &'a [u8], s: &[u8], at: usize) ->
 // The text of the record at a place: a part of the script after its mark, or of the text buffer.
 pub fn text<'a>(script: &'a [u8], texts: &'a [u8], s: &[u8], at: usize) -> &'a [u8]
     ensures { λ r. ⌜ now r ≡ textAt (now (script .entry)) (now (texts .entry)) (now (s .entry)) at ⌝ }
+    ensures { λ r. ⌜ ptr r ≡ textPlaceAt (ptr (script .entry)) (ptr (texts .entry)) (now (script .entry)) (now (texts .entry)) (now (s .entry)) at ⌝ }
 {
     if !read::is_whole(s, at) {
         return &script[..0];

@@ -9,7 +9,7 @@ use borrow.Author.Tests.{eqb-true, ne-eqb}
 use Rattle.characters.specs.Choice.{if_then_else_, _is_}
 use Rattle.characters.proofs.Choice.{if-both, if-rel, and-both, or-neither}
 use Rattle.rules.specs.Text.{Char, Text, oneOf, LF}
-use Rattle.rules.specs.Scan.{next, startsWith, Part, run, one, takes, _and-then_, Upto, passes, upTo}
+use Rattle.rules.specs.Scan.{next, startsWith, Part, run, oneChar, takes, _and-then_, Upto, passes, upTo}
 
 -- ── Tests ──
 
@@ -82,8 +82,8 @@ module _ (B : Text) where
   run-cuts p e [] = rw e
   run-cuts p e (c ∷ cs) = if-both (λ a a′. a ≡ with-X a′) (p c) (λ _. ap (takes c) (run-cuts p e cs)) (λ _. refl)
 
-  pub one-cuts : (p : Char → Bool) → p LF ≡ false → Cuts (one p)
-  unfolding one
+  pub one-cuts : (p : Char → Bool) → p LF ≡ false → Cuts (oneChar p)
+  unfolding oneChar
   one-cuts p e [] = rw e
   one-cuts p e (c ∷ cs) = if-both (λ a a′. a ≡ with-X a′) (p c) (λ _. refl) (λ _. refl)
 

@@ -11,7 +11,7 @@ use Rattle.characters.specs.Choice.{_is_}
 use Rattle.characters.specs.Space.{isWhite}
 use Rattle.characters.proofs.Choice.{if-all}
 use Rattle.rules.specs.Text.{Char, Text, ch, text, oneOf, LF, isDigit, isLetter, isIdentStart, isIdentPart, isEmpty}
-use Rattle.rules.specs.Scan.{next, startsWith, Part, run, one, _and-then_, Upto, upTo, closing}
+use Rattle.rules.specs.Scan.{next, startsWith, Part, run, oneChar, _and-then_, Upto, upTo, closing}
 use Rattle.rules.specs.Tables.{Ident, Row, MARKS, THIRDS, lookup}
 use Rattle.rules.specs.Segment.{Fault, Segment, wordToken}
 use Rattle.rules.specs.Comments.{whiteSpace, notLF, lineComment, blockComment}
@@ -44,8 +44,8 @@ unfolding run
 run-splits p [] = refl
 run-splits p (c ∷ cs) = if-all (λ (a : Part). a .taken ++ a .left ≡ c ∷ cs) (p c) (λ _. ap (λ t. c ∷ t) (run-splits p cs)) (λ _. refl)
 
-pub one-splits : (p : Char → Bool) → Splits (one p)
-unfolding one
+pub one-splits : (p : Char → Bool) → Splits (oneChar p)
+unfolding oneChar
 one-splits p [] = refl
 one-splits p (c ∷ cs) = if-all (λ (a : Part). a .taken ++ a .left ≡ c ∷ cs) (p c) (λ _. refl) (λ _. refl)
 
@@ -64,7 +64,7 @@ unfolding exponent
 exponent-splits [] = refl
 exponent-splits (c ∷ cs) =
     if-all (λ (a : Part). a .taken ++ a .left ≡ c ∷ cs) (oneOf (text "eE") c)
-    (λ _. ap (λ t. c ∷ t) (and-then-splits (one (oneOf (text "+-"))) (run isDigit) (one-splits _) (run-splits _) cs)) (λ _. refl)
+    (λ _. ap (λ t. c ∷ t) (and-then-splits (oneChar (oneOf (text "+-"))) (run isDigit) (one-splits _) (run-splits _) cs)) (λ _. refl)
 
 -- The characters up to the closing mark, the mark, and the rest are the text; nothing is left where there is no mark.
 abbrev pub UptoSplits : Text → Text → Upto → Type 0
@@ -136,12 +136,12 @@ decimal-takes c cs d =
     )
 
 radix-takes : (p : Char → Bool) (c : Char) (cs : Text) → (c is ch "0") ≡ true → Takes c cs (radix p (c ∷ cs))
-unfolding radix one oneOf isEmpty
+unfolding radix oneChar oneOf isEmpty
 radix-takes p c cs d =
     front-takes c cs (radix p (c ∷ cs)) (rw d) (
-      (one (oneOf (text "0")) and-then one (oneOf (text "xXbB")) and-then run p and-then maybeSuffix) (c ∷ cs) .left,
-      and-then-splits (one (oneOf (text "0"))) (one (oneOf (text "xXbB")) and-then run p and-then maybeSuffix) (one-splits _)
-          (and-then-splits (one (oneOf (text "xXbB"))) (run p and-then maybeSuffix) (one-splits _)
+      (oneChar (oneOf (text "0")) and-then oneChar (oneOf (text "xXbB")) and-then run p and-then maybeSuffix) (c ∷ cs) .left,
+      and-then-splits (oneChar (oneOf (text "0"))) (oneChar (oneOf (text "xXbB")) and-then run p and-then maybeSuffix) (one-splits _)
+          (and-then-splits (oneChar (oneOf (text "xXbB"))) (run p and-then maybeSuffix) (one-splits _)
           (and-then-splits (run p) maybeSuffix (run-splits p) (one-splits _)))
           (c ∷ cs),
       closed-not,

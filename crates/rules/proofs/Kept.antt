@@ -11,7 +11,7 @@ use Rattle.characters.specs.Choice.{if_then_else_, _is_, within}
 use Rattle.characters.specs.Space.{isWhite}
 use Rattle.characters.proofs.Choice.{if-all, if-both}
 use Rattle.rules.specs.Text.{Char, Text, ch, text, oneOf, LF, isDigit, isLetter, isHexDigit, isIdentStart, isIdentPart, hexValue}
-use Rattle.rules.specs.Scan.{next, startsWith, Part, run, one, takes, _and-then_}
+use Rattle.rules.specs.Scan.{next, startsWith, Part, run, oneChar, takes, _and-then_}
 use Rattle.rules.specs.Tables.{IntLiteral, Columns, Row, MARKS, THIRDS, ESCAPES, lookup}
 use Rattle.rules.specs.Segment.{Fault, Segment, wholeToken}
 use Rattle.rules.specs.Comments.{notLF, lineComment, blockComment}
@@ -107,7 +107,7 @@ module _ (B : Text) where
   exponent-cuts [] = refl
   exponent-cuts (c ∷ cs) =
       if-both (λ a a′. a ≡ with-X B a′) (oneOf (text "eE") c)
-      (λ _. ap (takes c) (and-then-cuts B (one (oneOf (text "+-"))) (run isDigit) (one-cuts B _ refl) (run-cuts B _ refl) cs))
+      (λ _. ap (takes c) (and-then-cuts B (oneChar (oneOf (text "+-"))) (run isDigit) (one-cuts B _ refl) (run-cuts B _ refl) cs))
       (λ _. refl)
 
   suffix-cuts : Cuts B maybeSuffix
@@ -123,12 +123,12 @@ module _ (B : Text) where
   decimal-same cs = rw (whole-cuts cs, fraction-cuts _, exponent-cuts _, suffix-cuts _)
 
   radix-cuts : (p : Char → Bool) → p LF ≡ false
-      → Cuts B (one (oneOf (text "0")) and-then one (oneOf (text "xXbB")) and-then run p and-then maybeSuffix)
+      → Cuts B (oneChar (oneOf (text "0")) and-then oneChar (oneOf (text "xXbB")) and-then run p and-then maybeSuffix)
   unfolding oneOf
   radix-cuts p e =
-      and-then-cuts B (one (oneOf (text "0"))) (one (oneOf (text "xXbB")) and-then run p and-then maybeSuffix)
+      and-then-cuts B (oneChar (oneOf (text "0"))) (oneChar (oneOf (text "xXbB")) and-then run p and-then maybeSuffix)
       (one-cuts B _ refl)
-      (and-then-cuts B (one (oneOf (text "xXbB"))) (run p and-then maybeSuffix)
+      (and-then-cuts B (oneChar (oneOf (text "xXbB"))) (run p and-then maybeSuffix)
       (one-cuts B _ refl)
       (and-then-cuts B (run p) maybeSuffix (run-cuts B p e) suffix-cuts))
 

@@ -4,7 +4,7 @@ use mathlib.Core.List.{List, [], _∷_, _++_}
 use Prim.Native.Nat.{ℕ}
 use Rattle.characters.specs.Choice.{if_then_else_, _is_}
 use Rattle.rules.specs.Text.{Char, Text, ch, text, oneOf, isDigit, isHexDigit, isEmpty}
-use Rattle.rules.specs.Scan.{next, Part, nothing, takes, run, one, _and-then_}
+use Rattle.rules.specs.Scan.{next, Part, nothing, takes, run, oneChar, _and-then_}
 use Rattle.rules.specs.Tables.{IntLiteral, FloatLiteral}
 use Rattle.rules.specs.Segment.{Segment, wholeToken}
 
@@ -17,13 +17,13 @@ binaryPart c = oneOf (text "01") c
 
 -- One suffix letter at most: `maybe_suffix` (lines 522 to 530).
 abbrev pub maybeSuffix : Text → Part
-maybeSuffix = one (oneOf (text "LlfFdDuU"))
+maybeSuffix = oneChar (oneOf (text "LlfFdDuU"))
 
 -- A zero, a letter, the digits after them, a suffix (lines 423 to 459).
 unfoldable pub radix : (Char → Bool) → Text → Segment
 radix isRadixDigit cs =
     wholeToken IntLiteral
-    ((one (oneOf (text "0")) and-then one (oneOf (text "xXbB")) and-then run isRadixDigit and-then maybeSuffix) cs .taken)
+    ((oneChar (oneOf (text "0")) and-then oneChar (oneOf (text "xXbB")) and-then run isRadixDigit and-then maybeSuffix) cs .taken)
 
 unfoldable pub isDigitOrUnderscore : Char → Bool
 isDigitOrUnderscore c = isDigit c || c is ch "_"
@@ -40,7 +40,7 @@ fraction (c ∷ cs) = if c is ch "." && next isDigit cs then takes c (run isDigi
 -- Lines 492 to 512.
 unfoldable pub exponent : Text → Part
 exponent [] = nothing []
-exponent (c ∷ cs) = if oneOf (text "eE") c then takes c ((one (oneOf (text "+-")) and-then run isDigit) cs) else nothing (c ∷ cs)
+exponent (c ∷ cs) = if oneOf (text "eE") c then takes c ((oneChar (oneOf (text "+-")) and-then run isDigit) cs) else nothing (c ∷ cs)
 
 -- A number with a fraction or an exponent is a float (`is_float`, line 517); a suffix says nothing of it.
 unfoldable pub decimalKind : Text → ℕ

@@ -32,9 +32,9 @@ run p [] = nothing []
 run p (c ∷ cs) = let more = takes c (run p cs) in if p c then more else nothing (c ∷ cs)
 
 -- One character, if it passes the test.
-unfoldable pub one : (Char → Bool) → Text → Part
-one p [] = nothing []
-one p (c ∷ cs) = if p c then takes c (nothing cs) else nothing (c ∷ cs)
+unfoldable pub oneChar : (Char → Bool) → Text → Part
+oneChar p [] = nothing []
+oneChar p (c ∷ cs) = if p c then takes c (nothing cs) else nothing (c ∷ cs)
 
 -- What `f` takes, and then what `g` takes of what `f` leaves.
 infixr 20 _and-then_

@@ -1,5 +1,8 @@
 -- `byte_order_mark::after_mark` meets its contract. Assumes nothing.
 use Rattle.byte_order_mark.proofs.Marks.{mark-length-inside, after-mark-part}
+use mathlib.Core.Path.{ap}
+use Prim.Native.Nat.{ℕ}
+use Rattle.byte_order_mark.specs.Slices.{bytesBehind}
 use borrow.Author.Needs.{needs}
 use native.Mathlib.Omega.{arith}
 use Rattle.byte_order_mark.proofs.after_mark.Statement.{statement}
@@ -18,7 +21,7 @@ part-result-end : tie.Need-part-result-end
 part-result-end c = search needs
 
 returns : tie.Need-returns
-returns c = after-mark-part _ _ (c .before .mark-length .ensures)
+returns c = let e = c .before .mark-length .ensures in (after-mark-part _ _ e, ap (λ (n : ℕ). bytesBehind n (c .before .before .before .args .text .ptr)) e)
 
 pub after-mark-spec : {M : Type 1} → statement M
 after-mark-spec =

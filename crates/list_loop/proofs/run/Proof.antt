@@ -40,7 +40,7 @@ nothing-requires c κs = tt
 loop-holds : tie.Need-loop-holds Inv-loop μ-loop
 loop-holds c =
     rw (c .nothing .ensures, c .before .begin .ensures)
-    (going-start _ _ _ _ _ (c .before .before .after-mark .ensures) (c .before .before .before .before .before .before .before .before .before .before .before .pre))
+    (going-start _ _ _ _ _ (c .before .before .after-mark .ensures .0) (c .before .before .before .before .before .before .before .before .before .before .before .pre))
 
 step-requires : tie.Need-step-requires Inv-loop μ-loop
 step-requires c κs =

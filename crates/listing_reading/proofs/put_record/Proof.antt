@@ -12,13 +12,13 @@ text-requires : tie.Need-text-requires
 text-requires c κs = search needs
 
 put-token-requires : tie.Need-put-token-requires
-put-token-requires c κs = text-room _ _ _ _ (c .before .before .before .before .before .before .before .before .args .r) _ _ (sym (c .before .before .before .has-text .ensures) ∙ c .before .before .if1 .taken) (c .before .text .ensures) (c .before .before .before .before .before .before .before .before .pre)
+put-token-requires c κs = text-room _ _ _ _ (c .before .before .before .before .before .before .before .before .args .r) _ _ (sym (c .before .before .before .has-text .ensures) ∙ c .before .before .if1 .taken) (c .before .text .ensures .0) (c .before .before .before .before .before .before .before .before .pre)
 
 same-length : tie.Need-same-length
 same-length c = search needs
 
 returns : tie.Need-returns
-returns c = text-put _ _ _ _ (c .before .before .before .before .before .before .before .before .before .before .before .args .r) _ _ _ _ _ (sym (c .before .before .before .before .before .before .has-text .ensures) ∙ c .before .before .before .before .before .if1 .taken) (c .before .before .before .before .text .ensures) (c .before .before .put-token .ensures)
+returns c = text-put _ _ _ _ (c .before .before .before .before .before .before .before .before .before .before .before .args .r) _ _ _ _ _ (sym (c .before .before .before .before .before .before .has-text .ensures) ∙ c .before .before .before .before .before .if1 .taken) (c .before .before .before .before .text .ensures .0) (c .before .before .put-token .ensures)
 
 put-fixed-requires : tie.Need-put-fixed-requires
 put-fixed-requires c κs = fixed-room _ _ _ _ (c .before .before .before .before .before .before .before .args .r) _ (sym (c .before .before .has-text .ensures) ∙ c .before .if1 .left) (c .before .before .before .before .before .before .before .pre)

@@ -30,13 +30,13 @@ is-inside-requires : tie.Need-is-inside-requires
 is-inside-requires c κs = search needs
 
 returns-3 : tie.Need-returns-3
-returns-3 c = check-inside _ _ _ _ _ (sym (c .before .before .before .before .before .before .before .is-whole .ensures) ∙ not-false _ (c .before .before .before .before .before .before .if1 .left)) (c .before .before .before .before .before .record-at .ensures) _ (sym (c .before .before .before .before .has-text .ensures) ∙ not-false _ (c .before .before .before .if2 .left)) (c .before .before .home .ensures) (sym (c .before .is-inside .ensures) ∙ c .if3 .taken)
+returns-3 c = check-inside _ _ _ _ _ (sym (c .before .before .before .before .before .before .before .is-whole .ensures) ∙ not-false _ (c .before .before .before .before .before .before .if1 .left)) (c .before .before .before .before .before .record-at .ensures) _ (sym (c .before .before .before .before .has-text .ensures) ∙ not-false _ (c .before .before .before .if2 .left)) (c .before .before .home .ensures .0) (sym (c .before .is-inside .ensures) ∙ c .if3 .taken)
 
 no-text-requires : tie.Need-no-text-requires
 no-text-requires c κs = search needs
 
 returns-4 : tie.Need-returns-4
-returns-4 c = check-outside _ _ _ _ _ (sym (c .before .before .before .before .before .before .before .before .is-whole .ensures) ∙ not-false _ (c .before .before .before .before .before .before .before .if1 .left)) (c .before .before .before .before .before .before .record-at .ensures) _ _ (sym (c .before .before .before .before .before .has-text .ensures) ∙ not-false _ (c .before .before .before .before .if2 .left)) (c .before .before .before .home .ensures) (sym (c .before .before .is-inside .ensures) ∙ c .before .if3 .left) (c .no-text .ensures)
+returns-4 c = check-outside _ _ _ _ _ (sym (c .before .before .before .before .before .before .before .before .is-whole .ensures) ∙ not-false _ (c .before .before .before .before .before .before .before .if1 .left)) (c .before .before .before .before .before .before .record-at .ensures) _ _ (sym (c .before .before .before .before .before .has-text .ensures) ∙ not-false _ (c .before .before .before .before .if2 .left)) (c .before .before .before .home .ensures .0) (sym (c .before .before .is-inside .ensures) ∙ c .before .if3 .left) (c .no-text .ensures)
 
 pub text-check-spec : {M : Type 1} → statement M
 text-check-spec =
