@@ -6,7 +6,7 @@ ghost use Prim.Native.Nat.{_≤_, _-_};
 ghost use lib.ListN.{length};
 ghost use Rattle.characters.specs.Utf8.{charsAt};
 ghost use Rattle.rules.specs.Text.{oneOf, isDigit};
-ghost use Rattle.rules.specs.Scan.{one, next};
+ghost use Rattle.rules.specs.Scan.{oneChar, next};
 ghost use Rattle.rules.specs.Numbers.{fraction, exponent, maybeSuffix, zeroThen, decimal, parseNumber};
 ghost use Rattle.bridge.specs.Bridge.{Cut, Letter};
 ghost use Rattle.lexemes.specs.Words.{WordAt};
@@ -73,7 +73,7 @@ fn past_fraction(text: &[u8], at: usize) -> usize
 // Past a sign.
 fn past_sign(text: &[u8], at: usize) -> usize
     requires { ⌜ at ≤ length (now text) ⌝ }
-    ensures { λ r. ⌜ Cut (now (text .entry)) at (one isSign (charsAt (now (text .entry)) at)) r ⌝ }
+    ensures { λ r. ⌜ Cut (now (text .entry)) at (oneChar isSign (charsAt (now (text .entry)) at)) r ⌝ }
 {
     if either_at(text, at, b'+', b'-') {
         return at + 1;
