@@ -111,7 +111,10 @@ record Takes (k : Call) : Type 0 where
 module _ (k : Call) (h : Answered k) where
   took : k .used ≡ needed (k .script)
   took =
-      back.answers (k .script) (k .tokens-before) (k .texts-before) (k .errors-before) (k .used) (k .tokens-after) (k .texts-after) (k .errors-after) h
+      back.answers (k .script) (k .tokens-before) (k .texts-before) (k .errors-before) (k .used) (k .tokens-after)
+      (k .texts-after)
+      (k .errors-after)
+      h
 
   takes : Takes k
   unfolding needed tokenBytes
@@ -126,17 +129,24 @@ module _ (k : Call) (h : Answered k) where
 
   says : accepted (k .script) ≡ true
   says =
-      back.tokenize-says (k .script) (k .used) (length (k .tokens-before)) (length (k .texts-before)) (length (k .errors-before)) (h .answer) .0
+      back.tokenize-says (k .script) (k .used) (length (k .tokens-before)) (length (k .texts-before)) (length (k .errors-before))
+      (h .answer) .0
 
   tokens-met : tokensMet k ≡ scriptTokens (k .script)
   tokens-met =
-      back.tokens-read (k .script) (k .tokens-before) (k .texts-before) (k .errors-before) (k .used) (k .tokens-after) (k .texts-after) (k .errors-after) h
+      back.tokens-read (k .script) (k .tokens-before) (k .texts-before) (k .errors-before) (k .used) (k .tokens-after)
+      (k .texts-after)
+      (k .errors-after)
+      h
       (k .used .count)
       (omega arith)
 
   errors-met : errorsMet k ≡ scriptErrors (k .script)
   errors-met =
-      back.errors-read (k .script) (k .tokens-before) (k .texts-before) (k .errors-before) (k .used) (k .tokens-after) (k .texts-after) (k .errors-after) h
+      back.errors-read (k .script) (k .tokens-before) (k .texts-before) (k .errors-before) (k .used) (k .tokens-after)
+      (k .texts-after)
+      (k .errors-after)
+      h
       (k .used .errors)
       (omega arith)
 
@@ -201,7 +211,12 @@ module _ (first second whole : Call) (f : Following first second whole) (closed 
   calls-join =
       record {
         tokens-join =
-            rw (tokens-met whole (f .whole-answered), tokens-met first (f .first-answered), tokens-met second (f .second-answered), eof-line a)
+            rw (
+              tokens-met whole (f .whole-answered),
+              tokens-met first (f .first-answered),
+              tokens-met second (f .second-answered),
+              eof-line a,
+            )
             whole-tokens;
         errors-join =
             rw (
@@ -290,7 +305,8 @@ callOf s =
     }
 
 room-there : (s : List ℕ)
-    → askRoom (needed s) (length (tokenBytes (scriptTokens s))) (length (textBytes (scriptTokens s))) (length (errorBytes (scriptErrors s))) ≡ Yes
+    → askRoom (needed s) (length (tokenBytes (scriptTokens s))) (length (textBytes (scriptTokens s))) (length (errorBytes (scriptErrors s)))
+    ≡ Yes
 unfolding needed
 room-there s = sym (room-yes (needed s) _ _ _ (omega arith) (omega arith) (omega arith))
 
