@@ -63,7 +63,7 @@ fn script(numbers: &mut Numbers, text: &str) -> Result<(), String> {
 pub fn run(seed: u64, count: u64) -> bool {
     let mut numbers = Numbers::new(seed);
     for _ in 0..count {
-        let text = scripts::random(&mut numbers);
+        let text = scripts::drawn(&mut numbers);
         if let Err(what) = script(&mut numbers, &text) {
             println!("DIFFERENT: {text:?}: {what}");
             return false;

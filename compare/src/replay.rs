@@ -86,7 +86,7 @@ pub fn store(file: &str) -> bool {
     list.push("Int Long Short Byte Float Double Boolean Char String Any Nothing Unit unit true false it by malloc spawn".to_string());
     let mut draw = Numbers::new(2026);
     while list.len() < 2400 {
-        list.push(scripts::random(&mut draw));
+        list.push(scripts::drawn(&mut draw));
     }
     list.push(crate::imports::script(2026, 2000));
     let mut kinds = [false; 126];

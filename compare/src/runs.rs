@@ -1,10 +1,9 @@
 //! The runs against the original lexer.
 use crate::check::{self, LIMIT};
 use crate::host::{self, Refusal};
-use crate::imports;
 use crate::lexed::Lexed;
 use crate::oracle;
-use crate::scripts::{self, Numbers};
+use crate::scripts;
 use std::fs;
 use std::path::Path;
 use std::sync::OnceLock;
@@ -120,45 +119,25 @@ impl Tally {
     }
 }
 
-/// Document 01's rows that are no M rows, and corner cases; each is compared and asked for demand 3.
-pub fn table() -> bool {
+/// Compares every script of a generator and reports.
+fn over(name: &str, scripts: impl FnOnce(&mut dyn FnMut(&[u8]) -> bool) -> bool) -> bool {
     let mut tally = Tally::default();
-    for script in crate::list::SMALL {
-        for mark in ["", "\u{FEFF}"] {
-            if !tally.add(format!("{mark}{script}").as_bytes()) {
-                return false;
-            }
-        }
-    }
-    tally.report("table")
+    scripts(&mut |script| tally.add(script)) && tally.report(name)
+}
+
+pub fn table() -> bool {
+    over("table", scripts::table)
 }
 
 pub fn exhaustive(depth: u32) -> bool {
-    let mut tally = Tally::default();
-    for d in 0..=depth {
-        for script in scripts::all(d) {
-            if !tally.add(script.as_bytes()) {
-                return false;
-            }
-        }
-    }
-    tally.report("exhaustive")
+    over("exhaustive", |each| scripts::exhaustive(depth, each))
 }
 
 pub fn random(seed: u64, count: u64) -> bool {
-    let mut numbers = Numbers::new(seed);
-    let mut tally = Tally::default();
-    for _ in 0..count {
-        if !tally.add(scripts::random(&mut numbers).as_bytes()) {
-            return false;
-        }
-    }
-    tally.report("random")
+    over("random", |each| scripts::random(seed, count, each))
 }
 
 pub fn mutate(seed: u64, count: u64, files: &[&str]) -> bool {
-    let mut numbers = Numbers::new(seed);
-    let mut tally = Tally::default();
     let mut texts: Vec<Vec<u8>> = Vec::new();
     for file in files {
         match fs::read(file) {
@@ -169,43 +148,11 @@ pub fn mutate(seed: u64, count: u64, files: &[&str]) -> bool {
             }
         }
     }
-    if texts.is_empty() {
-        texts.push(imports::script(seed, 2_000).into_bytes());
-    }
-    for text in &texts {
-        for at in 0..=text.len().min(4000) {
-            if !tally.add(&text[..at]) {
-                return false;
-            }
-        }
-        for _ in 0..count {
-            let once = scripts::damaged(&mut numbers, text);
-            let twice = scripts::damaged(&mut numbers, &once);
-            if !tally.add(&once) || !tally.add(&twice) {
-                return false;
-            }
-        }
-    }
-    tally.report("mutate")
+    over("mutate", |each| scripts::mutate(seed, count, &texts, each))
 }
 
-/// Scripts up to the limit and one byte more.
 pub fn large(seed: u64) -> bool {
-    let mut tally = Tally::default();
-    let mut texts = vec![" ".repeat(LIMIT), " ".repeat(LIMIT + 1), "\u{FEFF}".to_string() + &" ".repeat(LIMIT - 3)];
-    for part in ["\n", "a ", "\"$a\"", "'", "${", "\\", "/*", "é", "\"\\q\"", "+", "\"\"\"", "///\n", "/**\n*", "\0", "\"\\u\n"] {
-        texts.push(scripts::cut(part.repeat(LIMIT / part.len() + 1), LIMIT));
-        texts.push(scripts::cut("\"".to_string() + &part.repeat(LIMIT / part.len()), LIMIT));
-    }
-    for size in [1_000, 32_000, LIMIT] {
-        texts.push(scripts::cut(imports::script(seed, size + 4_000), size));
-    }
-    for text in texts {
-        if !tally.add(text.as_bytes()) {
-            return false;
-        }
-    }
-    tally.report("large")
+    over("large", |each| scripts::large(seed, each))
 }
 
 pub fn files_below(folder: &Path, found: &mut Vec<std::path::PathBuf>) -> std::io::Result<()> {

@@ -1,4 +1,8 @@
-//! Scripts to compare on: exhaustive, random, damaged and large ones. Every generator is seeded.
+//! Scripts to compare on: small, exhaustive, random, damaged and large ones. Every generator is seeded; it calls `each` with script after
+//! script until that answers false, and answers whether all were taken.
+use crate::check::LIMIT;
+use crate::imports;
+use crate::list;
 
 /// A small generator of numbers (xorshift), so that a seed names its scripts for ever.
 pub struct Numbers(u64);
@@ -49,7 +53,8 @@ const PARTS: [&str; 76] = [
     "1_0", "1.5", "1.", "1..2", "1e", "1e+5", "2f", "3L", "0X1G", "<", "<<", "<<<", ">>>", "...", ":=", "::", "->", "?", "\0", "\u{7F}",
 ];
 
-pub fn random(numbers: &mut Numbers) -> String {
+/// One random script.
+pub fn drawn(numbers: &mut Numbers) -> String {
     let length = 1 + numbers.below(24);
     (0..length).map(|_| numbers.pick(&PARTS)).collect()
 }
@@ -83,6 +88,51 @@ pub fn cut(mut script: String, size: usize) -> String {
     }
     script.truncate(at);
     script
+}
+
+/// Document 01's rows that are no M rows, and corner cases, each without and with a byte-order mark.
+pub fn table(each: &mut dyn FnMut(&[u8]) -> bool) -> bool {
+    list::SMALL.iter().all(|script| ["", "\u{FEFF}"].iter().all(|mark| each(format!("{mark}{script}").as_bytes())))
+}
+
+/// Every script of up to `depth` symbols.
+pub fn exhaustive(depth: u32, each: &mut dyn FnMut(&[u8]) -> bool) -> bool {
+    (0..=depth).all(|d| all(d).all(|script| each(script.as_bytes())))
+}
+
+pub fn random(seed: u64, count: u64, each: &mut dyn FnMut(&[u8]) -> bool) -> bool {
+    let mut numbers = Numbers::new(seed);
+    (0..count).all(|_| each(drawn(&mut numbers).as_bytes()))
+}
+
+/// The beginnings and `count` damaged copies of each text, once and twice damaged; of a made script where there is no text.
+pub fn mutate(seed: u64, count: u64, texts: &[Vec<u8>], each: &mut dyn FnMut(&[u8]) -> bool) -> bool {
+    const BEGINNINGS: usize = 4_000;
+    const MADE: usize = 2_000;
+    let mut numbers = Numbers::new(seed);
+    let made = [imports::script(seed, MADE).into_bytes()];
+    let texts = if texts.is_empty() { &made } else { texts };
+    texts.iter().all(|text| {
+        (0..=text.len().min(BEGINNINGS)).all(|at| each(&text[..at]))
+            && (0..count).all(|_| {
+                let once = damaged(&mut numbers, text);
+                let twice = damaged(&mut numbers, &once);
+                each(&once) && each(&twice)
+            })
+    })
+}
+
+/// Scripts up to the limit and one byte more.
+pub fn large(seed: u64, each: &mut dyn FnMut(&[u8]) -> bool) -> bool {
+    let mut texts = vec![" ".repeat(LIMIT), " ".repeat(LIMIT + 1), "\u{FEFF}".to_string() + &" ".repeat(LIMIT - 3)];
+    for part in ["\n", "a ", "\"$a\"", "'", "${", "\\", "/*", "é", "\"\\q\"", "+", "\"\"\"", "///\n", "/**\n*", "\0", "\"\\u\n"] {
+        texts.push(cut(part.repeat(LIMIT / part.len() + 1), LIMIT));
+        texts.push(cut("\"".to_string() + &part.repeat(LIMIT / part.len()), LIMIT));
+    }
+    for size in [1_000, 32_000, LIMIT] {
+        texts.push(cut(imports::script(seed, size + 4_000), size));
+    }
+    texts.iter().all(|text| each(text.as_bytes()))
 }
 
 /// What makes a script from a seed and a size.
