@@ -24,6 +24,8 @@ mod oracle;
 mod readers;
 #[cfg(oracle)]
 mod runs;
+#[cfg(oracle)]
+mod tables;
 
 include!(concat!(env!("OUT_DIR"), "/original.rs"));
 
@@ -36,6 +38,8 @@ const USAGE: &str = "usage: compare COMMAND
   count                    instructions and mispredicted branches a token, counted by valgrind
 with the original lexer's sources (AURA_SRC names their folder when building):
   table                    document 01's small scripts and corner cases
+  rows                     every row of every table of the rules, at every place
+  points                   every code point at many places, and every code of \\u
   archive DIR              every file below a folder
   exhaustive DEPTH         every script of up to DEPTH symbols
   random SEED COUNT        random scripts
@@ -52,6 +56,8 @@ fn against_the_original(words: &[&str]) -> Option<bool> {
     let number = |text: &str| text.parse::<u64>().ok();
     Some(match words {
         ["table"] => runs::table(),
+        ["rows"] => runs::rows(),
+        ["points"] => runs::points(),
         ["archive", folder] => runs::archive(folder),
         ["exhaustive", depth] => runs::exhaustive(number(depth)? as u32),
         ["random", seed, count] => runs::random(number(seed)?, number(count)?),
@@ -71,7 +77,8 @@ fn against_the_original(words: &[&str]) -> Option<bool> {
 #[cfg(not(oracle))]
 fn against_the_original(words: &[&str]) -> Option<bool> {
     let command = words.first()?;
-    let known = ["table", "archive", "exhaustive", "random", "mutate", "large", "readers", "kinds", "listing", "store", "bench"];
+    let known =
+        ["table", "rows", "points", "archive", "exhaustive", "random", "mutate", "large", "readers", "kinds", "listing", "store", "bench"];
     known.contains(command).then(|| {
         println!("{command}: skipped: this program was built without the original lexer's sources (set AURA_SRC to their folder)");
         true

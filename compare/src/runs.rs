@@ -4,6 +4,7 @@ use crate::host::{self, Refusal};
 use crate::lexed::Lexed;
 use crate::oracle;
 use crate::scripts;
+use crate::tables;
 use std::fs;
 use std::path::Path;
 use std::sync::OnceLock;
@@ -127,6 +128,14 @@ fn over(name: &str, scripts: impl FnOnce(&mut dyn FnMut(&[u8]) -> bool) -> bool)
 
 pub fn table() -> bool {
     over("table", scripts::table)
+}
+
+pub fn rows() -> bool {
+    over("rows", tables::rows)
+}
+
+pub fn points() -> bool {
+    over("points", tables::points)
 }
 
 pub fn exhaustive(depth: u32) -> bool {
