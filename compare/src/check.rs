@@ -63,17 +63,25 @@ impl Run {
     }
 }
 
-/// The answer of the proved lexer, with buffers that fit exactly, and what it answers with others.
-pub fn lex(script: &[u8]) -> Result<(Lexed, Used), String> {
-    let used = match host::measure(script) {
-        Ok(used) => used,
-        Err(refusal) => return Err(format!("refused {refusal:?}")),
-    };
+/// A run of the proved lexer with buffers that fit exactly, its lists, and what was measured.
+fn exact(script: &[u8]) -> Result<(Run, Lexed, Used), String> {
+    let used = host::measure(script).map_err(|refusal| format!("refused {refusal:?}"))?;
     let exact = run(script, [used.tokens, used.texts, used.errors]);
     let lexed = exact.lists(script, used)?;
     if lexed.tokens.len() != used.count {
         return Err(format!("{} tokens, counted {}", lexed.tokens.len(), used.count));
     }
+    Ok((exact, lexed, used))
+}
+
+/// The answer of the proved lexer, with buffers that fit exactly.
+pub fn lex_exactly(script: &[u8]) -> Result<(Lexed, Used), String> {
+    exact(script).map(|(_, lexed, used)| (lexed, used))
+}
+
+/// The same, and what it answers with other buffers.
+pub fn lex(script: &[u8]) -> Result<(Lexed, Used), String> {
+    let (exact, lexed, used) = exact(script)?;
     let most = run(script, largest(script.len()));
     if most.lists(script, used)? != lexed {
         return Err("another answer with the largest buffers".to_string());
@@ -97,9 +105,7 @@ pub fn lex(script: &[u8]) -> Result<(Lexed, Used), String> {
 
 /// The three buffers of an accepted script, as far as they are used.
 pub fn buffers(script: &[u8]) -> Result<[Vec<u8>; 3], String> {
-    let used = host::measure(script).map_err(|refusal| format!("refused {refusal:?}"))?;
-    let exact = run(script, [used.tokens, used.texts, used.errors]);
-    exact.lists(script, used)?;
+    let (exact, _, used) = exact(script)?;
     Ok([
         exact.tokens.bytes[..used.tokens].to_vec(),
         exact.texts.bytes[..used.texts].to_vec(),

@@ -37,16 +37,21 @@ fn joins(script: &[u8], closed: bool, first: &Lexed) -> Result<(), String> {
     oracle::joins(script, closed, first)
 }
 
+/// The refusal of a script that has to be refused, by both calls, which have to keep the buffers.
+fn compare_refused(script: &[u8], expected: Refusal) -> Result<(), String> {
+    let mut buffers = [vec![7; 64], vec![7; 64], vec![7; 64]];
+    let [tokens, texts, errors] = &mut buffers;
+    let answers = [host::measure(script), host::tokenize(script, tokens, texts, errors)];
+    if answers != [Err(expected); 2] || buffers.iter().flatten().any(|&b| b != 7) {
+        return Err(format!("expected {expected:?}, answered {answers:?}"));
+    }
+    Ok(())
+}
+
 /// Compares one script in everything. Answers whether it was accepted and closed.
 fn compare(script: &[u8]) -> Result<Option<bool>, String> {
     if let Some(expected) = refusal(script) {
-        let mut buffers = [vec![7; 64], vec![7; 64], vec![7; 64]];
-        let [tokens, texts, errors] = &mut buffers;
-        let answers = [host::measure(script), host::tokenize(script, tokens, texts, errors)];
-        if answers != [Err(expected); 2] || buffers.iter().flatten().any(|&b| b != 7) {
-            return Err(format!("expected {expected:?}, answered {answers:?}"));
-        }
-        return Ok(None);
+        return compare_refused(script, expected).map(|()| None);
     }
     let (lexed, used) = check::lex(script)?;
     if let Some(difference) = lexed.difference(&oracle::lex_bytes(script)?) {
@@ -54,6 +59,12 @@ fn compare(script: &[u8]) -> Result<Option<bool>, String> {
     }
     joins(script, used.closed, &lexed)?;
     Ok(Some(used.closed))
+}
+
+/// Compares the lists of one script that is accepted, and no more. Answers whether it was closed.
+fn compare_lists(script: &[u8]) -> Result<Option<bool>, String> {
+    let (lexed, used) = check::lex_exactly(script)?;
+    lexed.difference(&oracle::lex_bytes(script)?).map_or(Ok(Some(used.closed)), Err)
 }
 
 /// A smaller input that still differs, by leaving out parts: the smallest that is found within the time.
@@ -96,7 +107,12 @@ pub struct Tally {
 impl Tally {
     /// Compares a script; a difference ends the run.
     fn add(&mut self, script: &[u8]) -> bool {
-        match compare(script) {
+        self.take(script, compare(script))
+    }
+
+    /// Takes in what comparing the script gave.
+    fn take(&mut self, script: &[u8], answer: Result<Option<bool>, String>) -> bool {
+        match answer {
             Ok(answer) => {
                 self.scripts += 1;
                 self.bytes += script.len() as u64;
@@ -134,8 +150,16 @@ pub fn rows() -> bool {
     over("rows", tables::rows)
 }
 
+/// Packed scripts are long and many: only one of so many is compared in everything, of the others the lists.
 pub fn points() -> bool {
-    over("points", tables::points)
+    const WHOLE: u64 = 64;
+    const LONG: usize = 1_000;
+    let mut tally = Tally::default();
+    let each = &mut |script: &[u8]| {
+        let whole = script.len() < LONG || tally.scripts % WHOLE == 0;
+        tally.take(script, if whole { compare(script) } else { compare_lists(script) })
+    };
+    tables::points(each) && tally.report("points")
 }
 
 pub fn exhaustive(depth: u32) -> bool {

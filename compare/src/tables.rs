@@ -280,7 +280,7 @@ const POINT_PLACES: [&str; 26] = [
 /// The first code point that is packed with others: those before it have scripts of their own.
 const PACKED_FROM: u32 = 0x800;
 /// The code points to a packed script.
-const PACK: u32 = 256;
+const PACK: u32 = 64;
 
 /// Every code point in each of the places: those of one and two bytes in scripts of their own, the others packed, a place to a line.
 /// Then every code of `\u`, packed.
