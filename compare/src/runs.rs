@@ -185,7 +185,27 @@ pub fn mutate(seed: u64, count: u64, files: &[&str]) -> bool {
 }
 
 pub fn large(seed: u64) -> bool {
-    over("large", |each| scripts::large(seed, each))
+    let mut tally = Tally::default();
+    scripts::large(seed, &mut |script| tally.add(script)) && at_the_limit(&mut tally) && tally.report("large")
+}
+
+/// Scripts of the limit and of one byte less, with every ending. Demand 3 says nothing at the limit, since no second script fits, and
+/// one byte before it only the empty one does. So `closed` has to be that of a short script with the same padding and ending.
+fn at_the_limit(tally: &mut Tally) -> bool {
+    const SHORT: usize = 64;
+    let closed = |script: &str| host::measure(script.as_bytes()).map(|used| used.closed);
+    for (padding, ending) in scripts::PADDINGS.iter().flat_map(|p| scripts::ENDINGS.iter().map(move |e| (*p, *e))) {
+        let [short, less, most] = [SHORT, LIMIT - 1, LIMIT].map(|size| scripts::padded(padding, ending, size));
+        if ![&short, &less, &most].iter().all(|script| tally.add(script.as_bytes())) {
+            return false;
+        }
+        let answers = [&short, &less, &most].map(|script| closed(script));
+        if answers != [answers[0]; 3] {
+            println!("DIFFERENT: closed of {SHORT}, of the limit less one and of the limit's bytes, ending with {ending:?}: {answers:?}");
+            return false;
+        }
+    }
+    true
 }
 
 pub fn files_below(folder: &Path, found: &mut Vec<std::path::PathBuf>) -> std::io::Result<()> {

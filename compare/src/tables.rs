@@ -3,6 +3,8 @@
 //! As in `scripts`, a generator calls `each` with script after script until that answers false, and answers whether all were taken.
 use crate::decode::SPELLINGS;
 use crate::list;
+use crate::scripts::WHITE;
+use std::collections::BTreeSet;
 
 const HOLE: char = '□';
 /// What stands before and behind a script that is also tried between others: strings, so that offsets and columns differ.
@@ -161,11 +163,6 @@ fn codes(each: &mut dyn FnMut(&[u8]) -> bool) -> bool {
         )
 }
 
-/// The White_Space characters, by their first and last ones.
-const WHITE: [[u32; 2]; 10] = [
-    [0x9, 0xD], [0x20, 0x20], [0x85, 0x85], [0xA0, 0xA0], [0x1680, 0x1680], [0x2000, 0x200A], [0x2028, 0x2029], [0x202F, 0x202F],
-    [0x205F, 0x205F], [0x3000, 0x3000],
-];
 /// Characters that look like white space or once were.
 const NO_WHITE: [&str; 6] = ["\0", "\u{7F}", "\u{180E}", "\u{2060}", "\u{2800}", "\u{FEFF}"];
 const WHITE_PLACES: [&str; 56] = [
@@ -177,8 +174,8 @@ const WHITE_PLACES: [&str; 56] = [
 
 /// The White_Space characters and their neighbours, and some others.
 fn white() -> Vec<String> {
-    let codes = WHITE.iter().flat_map(|[first, last]| first - 1..=last + 1);
-    codes.map(|code| char::from_u32(code).expect("no surrogate").to_string()).chain(strings(&NO_WHITE)).collect()
+    let codes: BTreeSet<u32> = WHITE.concat().chars().map(u32::from).flat_map(|code| code - 1..=code + 1).collect();
+    codes.into_iter().filter_map(char::from_u32).map(String::from).chain(strings(&NO_WHITE)).collect()
 }
 
 fn white_space(each: &mut dyn FnMut(&[u8]) -> bool) -> bool {
