@@ -59,8 +59,8 @@ const NAMES: [&str; 23] = [
     "by", "malloc", "free", "retain", "release", "spawn", "send",
 ];
 const WORD_PLACES: [&str; 30] = [
-    "□", "_□", "□_", "□$", "$□", "$$□", "□1", "1□", "1□1", "0x□", "0b1□", "1.5□", "1e□", "a□", "□a", "é□", "□é", "\"$□\"", "\"$□ \"", "\"$□",
-    "\"$□$□\"", "\"${□}\"", "\"□\"", "${□}", "□.□", "□/**/□", "□\n□", "'□'", "// □\n□", "/// □\n□",
+    "□", "_□", "□_", "□$", "$□", "$$□", "□1", "1□", "1□1", "0x□", "0b1□", "1.5□", "1e□", "a□", "□a", "é□", "□é", "\"$□\"", "\"$□ \"",
+    "\"$□", "\"$□$□\"", "\"${□}\"", "\"□\"", "${□}", "□.□", "□/**/□", "□\n□", "'□'", "// □\n□", "/// □\n□",
 ];
 
 /// A word with a letter less, in the other case, or changed to the next one, for each of its letters.
@@ -86,8 +86,8 @@ fn words(each: &mut dyn FnMut(&[u8]) -> bool) -> bool {
 }
 
 const MARKS: [&str; 31] = [
-    "(", ")", "{", "}", "[", "]", ",", ";", ":", ".", "?", "@", "#", "|", "&", "^", "+", "-", "*", "/", "=", "!", "<", ">", "%", "$", "\"", "'",
-    "\\", "`", "~",
+    "(", ")", "{", "}", "[", "]", ",", ";", ":", ".", "?", "@", "#", "|", "&", "^", "+", "-", "*", "/", "=", "!", "<", ">", "%", "$", "\"",
+    "'", "\\", "`", "~",
 ];
 /// The marks that tokens of three marks are made of, and that comments and raw strings begin and end with.
 const LONG: [&str; 8] = ["<", ">", ".", ":", "=", "/", "*", "\""];
@@ -104,8 +104,8 @@ fn marks(each: &mut dyn FnMut(&[u8]) -> bool) -> bool {
 }
 
 const ESCAPE_PLACES: [&str; 16] = [
-    "\"\\□\"", "\"a\\□b\"", "\"\\□", "\"\\□\nb\"", "\"$x\\□\"", "\"$x\\□$y\"", "\"${x}\\□\"", "\"${\\□}\"", "'\\□'", "'\\□", "'\\□a'", "'\\□\n'",
-    "\"\"\"\\□\"\"\"", "\\□", "a\\□b", "\"\\\\□\"",
+    "\"\\□\"", "\"a\\□b\"", "\"\\□", "\"\\□\nb\"", "\"$x\\□\"", "\"$x\\□$y\"", "\"${x}\\□\"", "\"${\\□}\"", "'\\□'", "'\\□", "'\\□a'",
+    "'\\□\n'", "\"\"\"\\□\"\"\"", "\\□", "a\\□b", "\"\\\\□\"",
 ];
 
 fn escapes(each: &mut dyn FnMut(&[u8]) -> bool) -> bool {
@@ -113,14 +113,14 @@ fn escapes(each: &mut dyn FnMut(&[u8]) -> bool) -> bool {
 }
 
 const NUMBERS: [&str; 32] = [
-    "0", "1", "9", "00", "10", "1_0", "1_", "0_", "1.5", "0.5", "1.5_0", "01.5", "1.", "1..", "1e", "1E", "1e+", "1E-", "1e5", "1E5", "1e+5", "1E-5",
-    "1.5e5", "1.5E+5", "0x", "0X", "0x1F", "0XaB", "0b", "0B", "0b10", "0B01",
+    "0", "1", "9", "00", "10", "1_0", "1_", "0_", "1.5", "0.5", "1.5_0", "01.5", "1.", "1..", "1e", "1E", "1e+", "1E-", "1e5", "1E5",
+    "1e+5", "1E-5", "1.5e5", "1.5E+5", "0x", "0X", "0x1F", "0XaB", "0b", "0B", "0b10", "0B01",
 ];
 const SUFFIXES: [&str; 9] = ["", "L", "l", "f", "F", "d", "D", "u", "U"];
 const GLUE: [&str; 11] = [".", "..", "...", "e", "E", "e+", "E-", "_", "+", "-", " "];
 const DIGIT_PLACES: [&str; 34] = [
-    "□", "□1", "1□", "1□1", "0□", "0□1", "1.□", "1.□5", "1.5□", "1.5□5", "1.5_□", "1e□", "1E□", "1e□5", "1E□5", "1e+□", "1E-□5", "1e5□", "1E5□5", "1e-5□5",
-    "1.5e□", "1.5E5□", "0x□", "0X□", "0x1□", "0xA□F", "0b□", "0B□", "0b1□", "0b1□0", "1_□", "1_□0", "0x□L", "0b□u",
+    "□", "□1", "1□", "1□1", "0□", "0□1", "1.□", "1.□5", "1.5□", "1.5□5", "1.5_□", "1e□", "1E□", "1e□5", "1E□5", "1e+□", "1E-□5", "1e5□",
+    "1E5□5", "1e-5□5", "1.5e□", "1.5E5□", "0x□", "0X□", "0x1□", "0xA□F", "0b□", "0B□", "0b1□", "0b1□0", "1_□", "1_□0", "0x□L", "0b□u",
 ];
 
 fn numbers(each: &mut dyn FnMut(&[u8]) -> bool) -> bool {
@@ -166,10 +166,11 @@ fn codes(each: &mut dyn FnMut(&[u8]) -> bool) -> bool {
 /// Characters that look like white space or once were.
 const NO_WHITE: [&str; 6] = ["\0", "\u{7F}", "\u{180E}", "\u{2060}", "\u{2800}", "\u{FEFF}"];
 const WHITE_PLACES: [&str; 56] = [
-    "□", "□a", "a□", "a□b", "a□□b", "□\na", "a□\n□b", "a\n□b", "\r□\n□a", "é□a", "a/**/□b", "1□2", "1□.5", "1.□5", "1e□5", "1e+□5", "0□x1", "0x□F", "0b□1",
-    "+□+", "/□/ a", "/□* a */", "//□\nb", "//a□b\nc", "//a□", "///□a□\nb", "///□\nb", "/// a□", "/// a□b\n", "////□a", "/*□*/b", "/*a□\n□*/b", "/*□",
-    "/**□a□*/b", "/**□*/", "/** a□\n□* b□\n□c */d", "/**□*□a*/", "/** a\n*□b\n**□c□\n□ */", "/**□a", "\"□\"", "\"a□b", "\"$□\"", "\"$a□b\"", "\"${□}\"",
-    "\"${a□", "\"\\□\"", "${□}b", "$□{a}", "${□", "'□'", "'□", "'a□'", "'\\□'", "\"\"\"□\"\"\"", "\"\"\"a□\n□b\"\"\"c", "\"\"□\"",
+    "□", "□a", "a□", "a□b", "a□□b", "□\na", "a□\n□b", "a\n□b", "\r□\n□a", "é□a", "a/**/□b", "1□2", "1□.5", "1.□5", "1e□5", "1e+□5", "0□x1",
+    "0x□F", "0b□1", "+□+", "/□/ a", "/□* a */", "//□\nb", "//a□b\nc", "//a□", "///□a□\nb", "///□\nb", "/// a□", "/// a□b\n", "////□a",
+    "/*□*/b", "/*a□\n□*/b", "/*□", "/**□a□*/b", "/**□*/", "/** a□\n□* b□\n□c */d", "/**□*□a*/", "/** a\n*□b\n**□c□\n□ */", "/**□a",
+    "\"□\"", "\"a□b", "\"$□\"", "\"$a□b\"", "\"${□}\"", "\"${a□", "\"\\□\"", "${□}b", "$□{a}", "${□", "'□'", "'□", "'a□'", "'\\□'",
+    "\"\"\"□\"\"\"", "\"\"\"a□\n□b\"\"\"c", "\"\"□\"",
 ];
 
 /// The White_Space characters and their neighbours, and some others.
@@ -185,9 +186,9 @@ fn white_space(each: &mut dyn FnMut(&[u8]) -> bool) -> bool {
 }
 
 const COMMENTS: [&str; 40] = [
-    "//", "//a", "// a", "//*", "///", "///a", "/// a ", "////", "////a", "/////", "/**/", "/***/", "/****/", "/* */", "/*a*/", "/** */", "/** a */", "/**a**/",
-    "/***a***/", "/*/", "/*/*/", "/**//**/", "/* /* */", "/* /* */ */", "/** /* */", "/* // */", "/* /// */", "/* /** */", "/*\n*/", "/*a\n\nb*/", "/**\n*/",
-    "/**\n * a\n */", "/* \r\n */", "*/", "/*", "/* a", "/**", "/** a", "/* *", "/** *",
+    "//", "//a", "// a", "//*", "///", "///a", "/// a ", "////", "////a", "/////", "/**/", "/***/", "/****/", "/* */", "/*a*/", "/** */",
+    "/** a */", "/**a**/", "/***a***/", "/*/", "/*/*/", "/**//**/", "/* /* */", "/* /* */ */", "/** /* */", "/* // */", "/* /// */",
+    "/* /** */", "/*\n*/", "/*a\n\nb*/", "/**\n*/", "/**\n * a\n */", "/* \r\n */", "*/", "/*", "/* a", "/**", "/** a", "/* *", "/** *",
 ];
 const BEFORE: [&str; 9] = ["", " ", "a", "a ", "\n", "a\n ", "é", "/", "/**/"];
 const AFTER: [&str; 12] = ["", " b", "b", "\nb", "\n b", "\n\nb", "\r\nb", "/", "*/b", "*", "\"b\"", "é"];
@@ -213,8 +214,8 @@ const CONTENTS: [&str; 19] = [
     "", "a", "é", "🪦", "\\n", "\\q", "\\u0041", "\\u00", "\\uD800", "\\", "$", "$$", "$1", "$a", "$_", "${", "${a}", "${\n}", "'",
 ];
 const DOLLAR_PLACES: [&str; 20] = [
-    "\"$□\"", "\"$□", "\"a$□b\"", "\"$$□\"", "\"$a□b\"", "\"$a$□\"", "\"${a}$□\"", "\"${□}\"", "\"${□", "\"${a□b}c\"", "\"\\$□\"", "$□", "$$□", "a$□", "1$□",
-    "${□}", "${□", "${a□b}c", "$□{a}", "${a}□",
+    "\"$□\"", "\"$□", "\"a$□b\"", "\"$$□\"", "\"$a□b\"", "\"$a$□\"", "\"${a}$□\"", "\"${□}\"", "\"${□", "\"${a□b}c\"", "\"\\$□\"", "$□",
+    "$$□", "a$□", "1$□", "${□}", "${□", "${a□b}c", "$□{a}", "${a}□",
 ];
 const INSIDE: [&str; 18] =
     ["", "a", " ", "\"", "\"\"", "{", "{a", "$", "${", "$a", "\n", "\r\n", "\\", "é", "//", "/*", "'", "\"\"\""];
@@ -251,8 +252,9 @@ fn literals(each: &mut dyn FnMut(&[u8]) -> bool) -> bool {
 
 /// A token or a mistake of each form.
 const FORMS: [&str; 40] = [
-    "a", "_", "$", "$a", "val", "0", "1", "1.5", "1e", "1E5", "0x", "0xF", "0b1", "2L", "\"\"", "\"a\"", "\"$a\"", "\"${a}\"", "\"a", "\"\"\"a\"\"\"", "\"\"\"", "'a'",
-    "''", "'", "'a", "'\\", "${a}", "${", ".", "<", ">", "=", ":", "+", "/", "*", "\\", "é", "\u{FEFF}", "\0",
+    "a", "_", "$", "$a", "val", "0", "1", "1.5", "1e", "1E5", "0x", "0xF", "0b1", "2L", "\"\"", "\"a\"", "\"$a\"", "\"${a}\"", "\"a",
+    "\"\"\"a\"\"\"", "\"\"\"", "'a'", "''", "'", "'a", "'\\", "${a}", "${", ".", "<", ">", "=", ":", "+", "/", "*", "\\", "é", "\u{FEFF}",
+    "\0",
 ];
 
 /// Each form next to each, and byte-order marks in front, twice, inside and behind.
@@ -271,27 +273,93 @@ pub fn rows(each: &mut dyn FnMut(&[u8]) -> bool) -> bool {
 
 /// Where every code point is put. No place is left open by a character beyond ASCII and a line feed.
 const POINT_PLACES: [&str; 26] = [
-    "a □ b", "a□b", "□b", "1□2", "1.□5", "1e□5", "0x□F", "0b□1", "+□=", "\"a□b\"", "\"\\□\"", "\"$□\"", "\"$a□\"", "\"${□}\"", "\"\\u□041\"", "\"\\u004□\"", "'□'",
-    "'\\□'", "'\\u004□'", "\"\"\"□\"\"\"", "// □", "///□a□", "/*□*/ a", "/**□a□\n□*□b*/", "${□}", "$□",
+    "a □ b", "a□b", "□b", "1□2", "1.□5", "1e□5", "0x□F", "0b□1", "+□=", "\"a□b\"", "\"\\□\"", "\"$□\"", "\"$a□\"", "\"${□}\"",
+    "\"\\u□041\"", "\"\\u004□\"", "'□'", "'\\□'", "'\\u004□'", "\"\"\"□\"\"\"", "// □", "///□a□", "/*□*/ a", "/**□a□\n□*□b*/", "${□}",
+    "$□",
 ];
 /// The first code point that is packed with others: those before it have scripts of their own.
 const PACKED_FROM: u32 = 0x800;
 /// The code points to a packed script.
 const PACK: u32 = 64;
 
+/// Where every code of `\u` is put.
+const CODE_LINES: [&str; 3] = ["\"\\u□\"", "\"$a\\u□b\"", "'\\u□'"];
+const LAST_CODE: u32 = 0xFFFF;
+
+/// The piece at every place, a place to a line.
+fn lines(places: &[&str], piece: &str) -> String {
+    places.iter().map(|place| place.replace(HOLE, piece) + "\n").collect()
+}
+
+/// Packed scripts of the codes from the first to the last, with what `line` makes of each code.
+fn packed(first: u32, last: u32, line: impl Fn(u32) -> String, each: &mut dyn FnMut(&[u8]) -> bool) -> bool {
+    (first..=last).step_by(PACK as usize).all(|code| {
+        let script: String = (code..code + PACK).map(&line).collect();
+        each(script.as_bytes())
+    })
+}
+
 /// Every code point in each of the places: those of one and two bytes in scripts of their own, the others packed, a place to a line.
-/// Then every code of `\u`, packed.
+/// Then every code of `\u` in both cases, packed.
 pub fn points(each: &mut dyn FnMut(&[u8]) -> bool) -> bool {
-    let point = |code: u32| char::from_u32(code).map(String::from);
-    let alone = |code: u32| POINT_PLACES.iter().map(move |place| place.replace(HOLE, &point(code).expect("no surrogate")));
-    let packs = || (PACKED_FROM..=char::MAX.into()).step_by(PACK as usize);
-    let lines = |piece: &str, places: &[&str]| places.iter().map(|place| place.replace(HOLE, piece) + "\n").collect::<String>();
-    let packed = |first: u32| (first..first + PACK).filter_map(point).map(|piece| lines(&piece, &POINT_PLACES)).collect::<String>();
-    const CODE_LINES: [&str; 3] = ["\"\\u□\"", "\"$a\\u□b\"", "'\\u□'"];
-    let coded = |first: u32| {
-        (first..first + PACK).map(|code| lines(&format!("{code:04x}"), &CODE_LINES) + &lines(&format!("{code:04X}"), &CODE_LINES)).collect::<String>()
-    };
-    (0..PACKED_FROM).flat_map(alone).all(|script| each(script.as_bytes()))
-        && packs().map(packed).all(|script| each(script.as_bytes()))
-        && (0..=0xFFFF).step_by(PACK as usize).map(coded).all(|script| each(script.as_bytes()))
+    let pointed = |code: u32| char::from_u32(code).map_or(String::new(), |c| lines(&POINT_PLACES, &c.to_string()));
+    let coded = |code: u32| lines(&CODE_LINES, &format!("{code:04x}")) + &lines(&CODE_LINES, &format!("{code:04X}"));
+    let first: Vec<String> = (0..PACKED_FROM).filter_map(char::from_u32).map(String::from).collect();
+    first.iter().all(|piece| POINT_PLACES.iter().all(|place| each(place.replace(HOLE, piece).as_bytes())))
+        && packed(PACKED_FROM, char::MAX.into(), pointed, each)
+        && packed(0, LAST_CODE, coded, each)
+}
+
+#[cfg(test)]
+mod tests {
+    use super::*;
+    use crate::oracle;
+
+    fn all(generator: impl Fn(&mut dyn FnMut(&[u8]) -> bool) -> bool) -> Vec<String> {
+        let mut scripts = Vec::new();
+        assert!(generator(&mut |script| {
+            scripts.push(String::from_utf8(script.to_vec()).expect("UTF-8"));
+            true
+        }));
+        scripts
+    }
+
+    #[test]
+    fn sequences_are_the_product_alone_and_framed() {
+        let scripts = all(|each| sequences(&[&["a", "b"], &["", "1"]], each));
+        assert_eq!(scripts.iter().step_by(2).collect::<Vec<_>>(), ["a", "a1", "b", "b1"]);
+        assert_eq!(scripts[3], "\"é\"\n\"€\" a1 z");
+    }
+
+    #[test]
+    fn pieces_stand_at_every_hole() {
+        let scripts = all(|each| placed(&["<□>", "□□"], &strings(&["x", "□"]), each));
+        assert_eq!(scripts.iter().step_by(2).collect::<Vec<_>>(), ["<x>", "<□>", "xx", "□□"]);
+    }
+
+    #[test]
+    fn near_misses_of_a_word() {
+        assert_eq!(near("if"), ["f", "If", "jf", "i", "iF", "ig", "IF", "if"]);
+    }
+
+    #[test]
+    fn every_code_point_stands_at_every_place() {
+        let mut seen = vec![0; char::MAX as usize + 1];
+        points(&mut |script| {
+            let text = std::str::from_utf8(script).expect("UTF-8");
+            text.chars().for_each(|c| seen[c as usize] += 1);
+            true
+        });
+        let holes = POINT_PLACES.concat().matches(HOLE).count();
+        let missing = (0..=char::MAX as usize).filter(|&code| char::from_u32(code as u32).is_some() && seen[code] < holes);
+        assert_eq!(missing.collect::<Vec<_>>(), []);
+    }
+
+    #[test]
+    fn a_line_of_a_pack_leaves_the_next_one_alone() {
+        for place in POINT_PLACES.iter().chain(&CODE_LINES) {
+            let tokens = oracle::lex(&(place.replace(HOLE, "€") + "\nq")).tokens;
+            assert_eq!(tokens[tokens.len() - 2].text, b"q", "{place}");
+        }
+    }
 }
