@@ -50,7 +50,7 @@ const BEYOND: [&str; 18] = [
 
 /// Every ASCII character, and some others.
 fn characters() -> Vec<String> {
-    (0..0x80u8).map(|c| char::from(c).to_string()).chain(BEYOND.iter().map(|c| c.to_string())).collect()
+    (0..=u8::MAX).filter(u8::is_ascii).map(|c| char::from(c).to_string()).chain(strings(&BEYOND)).collect()
 }
 
 /// Names with a row in the keyword table that are no keywords, names that are keywords under two spellings, and ones that once were.
@@ -68,8 +68,8 @@ fn near(word: &str) -> Vec<String> {
     let with = |i: usize, new: &str| [&word[..i], new, &word[i + 1..]].concat();
     let changed = |i: usize| {
         let letter = word.as_bytes()[i];
-        let next = char::from(letter + 1).to_string();
-        [with(i, ""), with(i, &char::from(letter ^ 0x20).to_string()), with(i, &next)]
+        let other = if letter.is_ascii_lowercase() { letter.to_ascii_uppercase() } else { letter.to_ascii_lowercase() };
+        [with(i, ""), with(i, &char::from(other).to_string()), with(i, &char::from(letter + 1).to_string())]
     };
     (0..word.len()).flat_map(changed).chain([word.to_uppercase(), word.to_lowercase()]).collect()
 }
