@@ -1,5 +1,7 @@
 //! One script through the proved lexer, with everything that can be asked of the answer. The expected answer comes from the caller:
 //! from the original, or from the stored list.
+#![cfg_attr(not(oracle), allow(dead_code))]
+
 use crate::decode;
 use crate::host::{self, Refusal, Used};
 use crate::lexed::Lexed;

@@ -1,5 +1,7 @@
 //! Scripts to compare on: small, exhaustive, random, damaged and large ones. Every generator is seeded; it calls `each` with script after
 //! script until that answers false, and answers whether all were taken.
+#![cfg_attr(not(oracle), allow(dead_code))]
+
 use crate::check::LIMIT;
 use crate::imports;
 use crate::list;
