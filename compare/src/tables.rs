@@ -235,8 +235,8 @@ fn texts(each: &mut dyn FnMut(&[u8]) -> bool) -> bool {
 }
 
 const QUOTES: [&str; 7] = ["", "\"", "\"\"", "\"\"\"", "\"\"\"\"", "\"\"\"\"\"", "\"\"\"\"\"\""];
-const RAW: [&str; 18] = [
-    "a", " ", "\n", "a\nb", "\r\n", "\n\n", "$a", "${a}", "${", "\\", "\\\"", "\\u0041", "é", "🪦", "'", "// a", "a\"b", "a\"\"b",
+const RAW: [&str; 19] = [
+    "", "a", " ", "\n", "a\nb", "\r\n", "\n\n", "$a", "${a}", "${", "\\", "\\\"", "\\u0041", "é", "🪦", "'", "// a", "a\"b", "a\"\"b",
 ];
 /// What a character literal is made of.
 const LITERALS: [&str; 18] = [
