@@ -1,7 +1,7 @@
 # Follows what a reader has to believe. Reads the lists of docs/READING.md: the definitions (CRATE: FILE..), the entry points
 # (CRATE/src/FILE.rt: FUNCTION..) and the theorems (CRATE/proofs/FILE.antt: NAME..). Every definition that a contract or a statement
-# names, and every one that those use, has to be listed; a statement may name nothing that stands in proofs/ alone; a spec may use no
-# proof; an entry point asks nothing of its caller; and nothing is listed that is not named.
+# names, and every one that those use, has to be listed, and no others; a statement may name nothing that stands in proofs/ alone; an
+# entry point asks nothing of its caller, but for `listed`, which only the program's own `main` calls.
 function fail(what) {
     print "believed: " what
     failed++
@@ -21,7 +21,6 @@ function brings(line, file, home,    crate, part, rest, n, i, names, name) {
     sub(/[ .;].*/, "", name)
     if (part == "specs" && name == "declared") return
     if (part == "specs") used[file, ++uses[file]] = crate "." name
-    else if (file ~ /\/specs\//) fail(file " uses a proof: " crate "." name)
     if (rest !~ /\{/) {
         if (rest ~ / as /) { sub(/.* as /, "", rest); sub(/;.*/, "", rest); home[rest] = part " " crate "." name }
         return
@@ -82,17 +81,17 @@ function load(file, home,    line) {
     if (count == 0) fail("there is no " file)
 }
 
-function entry(file, name,    i, text, inside) {
+# A contract: what stands between a function's name and its body.
+function entry(file, name,    i, text, inside, asked) {
     for (i = 1; i <= count; i++) {
         if (!inside && lines[i] ~ ("^ *(pub )?(extern \"C\" )?fn " name "[<(]")) inside = 1
         if (inside && lines[i] ~ /^ *\{$/) break
-        if (inside && lines[i] ~ /^ *requires/ && lines[i] !~ /^$/) asked = 1
+        if (inside && lines[i] ~ /^ *requires/) asked = 1
         if (inside) text = text " " lines[i]
     }
     if (!inside) { fail("there is no function " name " in " file); return }
     if (text !~ /ensures/) fail(name " in " file " promises nothing")
-    if (asked && file !~ /\/tokens\//) fail(name " in " file " asks something of its caller")
-    asked = 0
+    if (asked && name != "listed") fail(name " in " file " asks something of its caller")
     functions++
     names_in(text, here, name " (" file ")")
 }
