@@ -14,16 +14,26 @@ mod scripts;
 
 #[cfg(oracle)]
 mod bench;
+#[cfg(all(oracle, feature = "mutants"))]
+mod calls;
+#[cfg(test)]
+mod changes;
+#[cfg(all(oracle, feature = "mutants"))]
+mod held;
 #[cfg(oracle)]
 mod kinds;
 #[cfg(oracle)]
 mod listing;
+#[cfg(oracle)]
+mod mutants;
 #[cfg(oracle)]
 mod oracle;
 #[cfg(oracle)]
 mod readers;
 #[cfg(oracle)]
 mod runs;
+#[cfg(oracle)]
+mod shrink;
 #[cfg(oracle)]
 mod tables;
 
@@ -48,6 +58,8 @@ with the original lexer's sources (AURA_SRC names their folder when building):
   readers SEED COUNT       next, consume and match over random scripts, in random order
   kinds                    the names and spellings of the token kinds
   listing FILE             the original's listing of a script, as the program `tokens` writes it
+  mutants [--runs R,R..]   which run finds each changed copy of the original lexer; by some runs only
+  mutants --alone          how many of them each run finds on its own
   store FILE               writes the stored answers
   bench [DIR | --short]    the speed of both lexers, over a folder too; --short: import and mixed scripts only";
 
@@ -66,6 +78,7 @@ fn against_the_original(words: &[&str]) -> Option<bool> {
         ["readers", seed, count] => readers::run(number(seed)?, number(count)?),
         ["kinds"] => kinds::run(),
         ["listing", file] => listing::run(file),
+        ["mutants", words @ ..] => mutants::run(words)?,
         ["store", file] => replay::store(file),
         ["bench"] => bench::run(false, None),
         ["bench", "--short"] => bench::run(true, None),
@@ -77,8 +90,10 @@ fn against_the_original(words: &[&str]) -> Option<bool> {
 #[cfg(not(oracle))]
 fn against_the_original(words: &[&str]) -> Option<bool> {
     let command = words.first()?;
-    let known =
-        ["table", "rows", "points", "archive", "exhaustive", "random", "mutate", "large", "readers", "kinds", "listing", "store", "bench"];
+    let known = [
+        "table", "rows", "points", "archive", "exhaustive", "random", "mutate", "large", "readers", "kinds", "listing", "mutants", "store",
+        "bench",
+    ];
     known.contains(command).then(|| {
         println!("{command}: skipped: this program was built without the original lexer's sources (set AURA_SRC to their folder)");
         true

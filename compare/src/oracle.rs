@@ -1,51 +1,113 @@
-//! The original lexer: a fresh `Lexer::new`, then `tokenize` and `errors`.
+//! The original lexer: a fresh `Lexer::new`, then `tokenize` and `errors`. A changed copy of it is asked in the same way.
 use crate::check;
 use crate::lexed::{Lexed, Mistake, Span, Token};
 use crate::lexer::Lexer;
 use std::sync::OnceLock;
 
-fn span(s: &crate::span::Span) -> Span {
-    [s.start, s.end, s.start_line, s.start_col, s.end_line, s.end_col].map(|n| n as u64)
+/// The number of a message that the original does not have.
+const UNKNOWN: u8 = 0;
+
+/// A lexer in Rust, in the form in which answers are compared: the original, or a changed copy of it.
+pub trait Lexing {
+    fn start(source: &str) -> Self
+    where
+        Self: Sized;
+    fn tokenize(&mut self) -> Vec<Token>;
+    fn errors(&self) -> Vec<Mistake>;
+    #[cfg(feature = "mutants")]
+    fn next_token(&mut self) -> Token;
+    /// An error has its span.
+    #[cfg(feature = "mutants")]
+    fn consume(&mut self, kind: u8) -> Result<Token, Span>;
+    #[cfg(feature = "mutants")]
+    fn match_kind(&mut self, kind: u8) -> bool;
 }
 
-/// The number of an error, by its message, and the character that it names.
-fn mistake(message: &str) -> (u8, Option<u32>) {
-    if let Some(rest) = message.strip_prefix("Unexpected character: '") {
-        return (1, rest.chars().next().map(u32::from));
+/// Implements `Lexing` for a `Lexer`, whose kinds are listed by their numbers.
+macro_rules! lexing {
+    ($lexer:ty, $kinds:expr) => {
+        impl crate::oracle::Lexing for $lexer {
+            fn start(source: &str) -> Self {
+                <$lexer>::new(source)
+            }
+            fn tokenize(&mut self) -> Vec<crate::lexed::Token> {
+                <$lexer>::tokenize(self).into_iter().map(|t| crate::oracle::token!(t)).collect()
+            }
+            fn errors(&self) -> Vec<crate::lexed::Mistake> {
+                <$lexer>::errors(self).iter().map(|e| crate::oracle::error(&e.message, crate::oracle::span!(e.span))).collect()
+            }
+            #[cfg(feature = "mutants")]
+            fn next_token(&mut self) -> crate::lexed::Token {
+                let t = <$lexer>::next_token(self);
+                crate::oracle::token!(t)
+            }
+            #[cfg(feature = "mutants")]
+            fn consume(&mut self, kind: u8) -> Result<crate::lexed::Token, crate::lexed::Span> {
+                let answer = <$lexer>::consume(self, $kinds[usize::from(kind)]);
+                answer.map(|t| crate::oracle::token!(t)).map_err(|e| crate::oracle::span!(e.span))
+            }
+            #[cfg(feature = "mutants")]
+            fn match_kind(&mut self, kind: u8) -> bool {
+                <$lexer>::match_kind(self, $kinds[usize::from(kind)])
+            }
+        }
+    };
+}
+
+/// A token of the original, or of a changed copy, whose type is another one.
+macro_rules! token {
+    ($t:expr) => {
+        crate::lexed::Token { kind: $t.kind as u8, span: crate::oracle::span!($t.span), text: $t.literal.into_bytes() }
+    };
+}
+
+macro_rules! span {
+    ($s:expr) => {
+        [$s.start, $s.end, $s.start_line, $s.start_col, $s.end_line, $s.end_col].map(|n| n as u64)
+    };
+}
+
+#[cfg(feature = "mutants")]
+pub(crate) use lexing;
+pub(crate) use {span, token};
+
+lexing!(Lexer, crate::KINDS);
+
+/// The only character of a message between what stands before it and behind it.
+fn named(message: &str, before: &str, behind: &str) -> Option<u32> {
+    let mut rest = message.strip_prefix(before)?.strip_suffix(behind)?.chars();
+    rest.next().filter(|_| rest.next().is_none()).map(u32::from)
+}
+
+/// An error by its message: its number, and the character that it names.
+pub fn error(message: &str, span: Span) -> Mistake {
+    if let Some(code) = named(message, "Unexpected character: '", "'") {
+        return Mistake { kind: 1, span, code: Some(code) };
     }
-    if let Some(rest) = message.strip_prefix("Invalid escape sequence: \\") {
-        return (7, rest.chars().next().map(u32::from));
+    if let Some(code) = named(message, "Invalid escape sequence: \\", "") {
+        return Mistake { kind: 7, span, code: Some(code) };
     }
-    let number = match message {
+    let kind = match message {
         "Unterminated block comment" => 2,
         "Unterminated raw string literal" => 3,
         "Unterminated string literal" => 4,
+        "Unterminated string literal: newline in string, use \"\"\"...\"\"\" for multi-line strings" => 5,
         "Invalid unicode escape (expected \\uXXXX)" => 6,
         "Unterminated string interpolation" => 8,
         "Unterminated character literal" => 9,
         "Unterminated documentation comment" => 10,
-        other if other.starts_with("Unterminated string literal: newline") => 5,
-        other => panic!("a message without a number: {other}"),
+        _ => UNKNOWN,
     };
-    (number, None)
+    Mistake { kind, span, code: None }
+}
+
+/// All of a lexer's answers for its script.
+pub fn answers(lexer: &mut dyn Lexing) -> Lexed {
+    Lexed { tokens: lexer.tokenize(), errors: lexer.errors() }
 }
 
 pub fn lex(source: &str) -> Lexed {
-    let mut lexer = Lexer::new(source);
-    let tokens = lexer.tokenize();
-    let tokens = tokens
-        .iter()
-        .map(|t| Token { kind: t.kind as u8, text: t.literal.clone().into_bytes(), span: span(&t.span) })
-        .collect();
-    let errors = lexer
-        .errors()
-        .iter()
-        .map(|e| {
-            let (kind, code) = mistake(&e.message);
-            Mistake { kind, span: span(&e.span), code }
-        })
-        .collect();
-    Lexed { tokens, errors }
+    answers(&mut Lexer::start(source))
 }
 
 /// The same for bytes that are known to be UTF-8.
@@ -57,4 +119,23 @@ pub fn lex_bytes(script: &[u8]) -> Result<Lexed, String> {
 pub fn joins(script: &[u8], closed: bool, first: &Lexed) -> Result<(), String> {
     static SECONDS: OnceLock<Vec<Lexed>> = OnceLock::new();
     check::joins(script, closed, first, SECONDS.get_or_init(|| check::seconds(lex_bytes)), lex_bytes)
+}
+
+#[cfg(test)]
+mod tests {
+    use super::*;
+
+    #[test]
+    fn a_message_has_its_number() {
+        let span = [0; 6];
+        let numbers = |message: &str| (error(message, span).kind, error(message, span).code);
+        assert_eq!(numbers("Unexpected character: '''"), (1, Some(u32::from('\''))));
+        assert_eq!(numbers("Unexpected character: ''"), (UNKNOWN, None));
+        assert_eq!(numbers("Unexpected character: 'ab'"), (UNKNOWN, None));
+        assert_eq!(numbers("Invalid escape sequence: \\\u{e9}"), (7, Some(0xE9)));
+        assert_eq!(numbers("Invalid escape sequence: \\"), (UNKNOWN, None));
+        assert_eq!(numbers("Unterminated string literal"), (4, None));
+        assert_eq!(numbers("Unterminated string literal: newline"), (UNKNOWN, None));
+        assert_eq!(numbers("a message that the original does not have"), (UNKNOWN, None));
+    }
 }

@@ -6,7 +6,7 @@ use crate::scripts::{self, Numbers};
 use crate::span::Span;
 use crate::token::{Token, TokenKind};
 
-const STEPS: usize = 40;
+pub const STEPS: usize = 40;
 
 /// A span's fields, as both sides give them.
 fn fields(s: &Span) -> [u64; 6] {

@@ -53,6 +53,12 @@ fn stored(text: &str) -> Vec<Stored> {
     list
 }
 
+/// Every stored script with its answer, until `each` answers false.
+#[cfg(all(oracle, feature = "mutants"))]
+pub fn each(each: &mut dyn FnMut(&[u8], &Lexed) -> bool) -> bool {
+    stored(ANSWERS).iter().all(|s| each(&s.script, &s.lexed))
+}
+
 pub fn run() -> bool {
     let list = stored(ANSWERS);
     for s in &list {

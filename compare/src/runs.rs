@@ -4,15 +4,14 @@ use crate::host::{self, Refusal};
 use crate::lexed::Lexed;
 use crate::oracle;
 use crate::scripts;
+use crate::shrink::shrink;
 use crate::tables;
 use std::fs;
 use std::path::Path;
 use std::sync::OnceLock;
-use std::time::{Duration, Instant};
+use std::time::Duration;
 
 const SHRINKING: Duration = Duration::from_secs(30);
-/// The most bytes that a character has: parts of so many bytes and fewer are left out at every place.
-const CHARACTER: usize = 4;
 
 fn hex(bytes: &[u8]) -> String {
     bytes.iter().map(|b| format!("{b:02X}")).collect::<Vec<_>>().join(" ")
@@ -67,30 +66,9 @@ fn compare_lists(script: &[u8]) -> Result<Option<bool>, String> {
     lexed.difference(&oracle::lex_bytes(script)?).map_or(Ok(Some(used.closed)), Err)
 }
 
-/// A smaller input that still differs, by leaving out parts: the smallest that is found within the time.
-fn shrink(script: &[u8]) -> Vec<u8> {
-    let start = Instant::now();
-    let mut best = script.to_vec();
-    let mut size = best.len().div_ceil(2);
-    while size > 0 {
-        let mut at = 0;
-        while at + size <= best.len() && start.elapsed() < SHRINKING {
-            let mut less = best.clone();
-            less.drain(at..at + size);
-            if compare(&less).is_err() {
-                best = less;
-            } else {
-                at += if size <= CHARACTER { 1 } else { size };
-            }
-        }
-        size = if size <= CHARACTER { size - 1 } else { (size / 2).max(CHARACTER) };
-    }
-    best
-}
-
 /// The smallest input that is found by leaving out parts of this one, and how it differs, which may be in another way.
 fn smallest(script: &[u8]) -> String {
-    let least = shrink(script);
+    let least = shrink(script, SHRINKING, |less| compare(less).is_err());
     let text = compare(&least).expect_err("it still differs");
     format!("{:?} ({}): {text}", String::from_utf8_lossy(&least), hex(&least))
 }
