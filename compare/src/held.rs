@@ -251,23 +251,10 @@ fn named(names: &str) -> Option<Vec<(&'static str, Scripts)>> {
     known.then(|| RUNS.iter().copied().filter(|run| names.contains(&run.0)).collect())
 }
 
-/// How many each run finds on its own.
-fn alone() -> bool {
-    for (name, scripts) in RUNS {
-        let mut held = Held::new();
-        held.hold(name, scripts);
-    }
-    true
-}
-
 pub fn run(words: &[&str]) -> Option<bool> {
     let runs = match words {
         [] => RUNS.to_vec(),
         ["--runs", names] => named(names)?,
-        ["--alone"] => {
-            watch();
-            return Some(alone());
-        }
         _ => return None,
     };
     watch();

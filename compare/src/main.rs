@@ -58,8 +58,7 @@ with the original lexer's sources (AURA_SRC names their folder when building):
   readers SEED COUNT       next, consume and match over random scripts, in random order
   kinds                    the names and spellings of the token kinds
   listing FILE             the original's listing of a script, as the program `tokens` writes it
-  mutants [--runs R,R..]   which run finds each changed copy of the original lexer; by some runs only
-  mutants --alone          how many of them each run finds on its own
+  mutants [--runs R,R..]   which run finds each changed copy of the original lexer, of all runs or of some
   store FILE               writes the stored answers
   bench [DIR | --short]    the speed of both lexers, over a folder too; --short: import and mixed scripts only";
 
