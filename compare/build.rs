@@ -17,7 +17,7 @@ fn original(src: &Path) -> String {
     text += "/// The source of the token kinds, for their names.\npub const TOKEN_RS: &str = include_str!(\"SRC/token.rs\");\n";
     text += "/// The sources that are changed.\n#[cfg(test)]\npub const LEXER_RS: &str = include_str!(\"SRC/lexer.rs\");\n";
     text += "#[cfg(test)]\npub const SPAN_RS: &str = include_str!(\"SRC/span.rs\");\n";
-    text += "/// The token kinds by their numbers.\n#[cfg(feature = \"mutants\")]\n";
+    text += "/// The token kinds by their numbers.\n";
     text = text.replace("SRC", &src.display().to_string());
     let token_rs = fs::read_to_string(src.join("token.rs")).expect("token.rs stands beside lexer.rs");
     text + &kinds(&token_rs, "token::")

@@ -13,22 +13,26 @@ pub enum Call {
     Match(u8),
 }
 
+fn name(kind: u64) -> &'static str {
+    TokenKind::from_number(kind).map_or("unknown", TokenKind::name)
+}
+
 impl fmt::Display for Call {
     fn fmt(&self, f: &mut fmt::Formatter<'_>) -> fmt::Result {
-        let name = |kind: u8| TokenKind::from_number(kind.into()).map_or("unknown", TokenKind::name);
         match *self {
             Call::Next => write!(f, "next"),
-            Call::Consume(kind) => write!(f, "consume {}", name(kind)),
-            Call::Match(kind) => write!(f, "match {}", name(kind)),
+            Call::Consume(kind) => write!(f, "consume {}", name(kind.into())),
+            Call::Match(kind) => write!(f, "match {}", name(kind.into())),
         }
     }
 }
 
-/// What a call answers: a token's kind and span, the span of a consume that failed, or whether the kind matched.
-#[derive(PartialEq, Eq)]
+/// What a call answers: a token's kind and span, the original's message and the span of a consume that failed, or whether the kind
+/// matched.
+#[derive(Debug, PartialEq, Eq)]
 pub enum Answer {
     Token(u8, Span),
-    Failed(Span),
+    Failed(String, Span),
     Matched(bool),
 }
 
@@ -46,6 +50,14 @@ fn span(slots: &[u64]) -> Span {
     slots[2..8].try_into().expect("six slots")
 }
 
+/// What consuming a kind answered. The record of a token of another kind is told as the original tells it.
+fn consumed(kind: u8, slots: &[u64]) -> Answer {
+    if slots[10] == 1 {
+        return Answer::Token(slots[1] as u8, span(slots));
+    }
+    Answer::Failed(format!("Expected {} but got {}", name(kind.into()), name(slots[1])), span(slots))
+}
+
 /// The answers of the proved readers over the records of tokens.
 pub fn ours(tokens: &[u8], calls: &[Call]) -> Result<Vec<Answer>, String> {
     let mut place = 0;
@@ -54,10 +66,7 @@ pub fn ours(tokens: &[u8], calls: &[Call]) -> Result<Vec<Answer>, String> {
         let refused = |r| format!("refused {r:?} at {place}");
         let (next, answer) = match *call {
             Call::Next => host::next_token(tokens, place).map(|r| (r[0], Answer::Token(r[1] as u8, span(&r)))),
-            Call::Consume(kind) => host::consume(tokens, place, kind).map(|r| {
-                let answer = if r[10] == 1 { Answer::Token(r[1] as u8, span(&r)) } else { Answer::Failed(span(&r)) };
-                (r[0], answer)
-            }),
+            Call::Consume(kind) => host::consume(tokens, place, kind).map(|r| (r[0], consumed(kind, &r))),
             Call::Match(kind) => host::match_kind(tokens, place, kind).map(|r| (r[0], Answer::Matched(r[1] == 1))),
         }
         .map_err(refused)?;
@@ -74,7 +83,7 @@ pub fn theirs(lexer: &mut dyn Lexing, calls: &[Call]) -> Vec<Answer> {
         .iter()
         .map(|call| match *call {
             Call::Next => token(lexer.next_token()),
-            Call::Consume(kind) => lexer.consume(kind).map_or_else(Answer::Failed, token),
+            Call::Consume(kind) => lexer.consume(kind).map_or_else(|(message, span)| Answer::Failed(message, span), token),
             Call::Match(kind) => Answer::Matched(lexer.match_kind(kind)),
         })
         .collect()

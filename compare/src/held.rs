@@ -3,9 +3,10 @@ use crate::calls::{self, Answer, Call};
 use crate::decode;
 use crate::lexed::Lexed;
 use crate::oracle::{self, Lexing};
+use crate::readers;
 use crate::replay;
 use crate::runs;
-use crate::scripts::{self, Numbers};
+use crate::scripts;
 use crate::shrink::shrink;
 use crate::tables;
 use std::cell::Cell;
@@ -40,7 +41,7 @@ const RUNS: [(&str, Scripts); 10] = [
     ("random", |held| scripts::random(1, 100_000, &mut |script| held.script(script))),
     ("mutate", |held| scripts::mutate(1, 2_000, &[], &mut |script| held.script(script))),
     ("large", |held| scripts::large(1, &mut |script| held.script(script))),
-    ("readers", |held| readers(1, 50_000, held)),
+    ("readers", |held| readers::drawn(1, 50_000, &mut |text, calls| held.calls(text, calls))),
     ("archive", archive),
 ];
 
@@ -223,18 +224,6 @@ impl Held {
         println!("mutants: {} changed originals, {} found, {unshowable} that no script can show", MUTANTS.len(), self.count());
         wrong == 0
     }
-}
-
-/// The scripts and calls of the run `readers`.
-fn readers(seed: u64, count: u64, held: &mut Held) -> bool {
-    let mut numbers = Numbers::new(seed);
-    (0..count).all(|_| {
-        let text = scripts::drawn(&mut numbers);
-        let (lexed, _) = ours(text.as_bytes()).expect("a drawn script is accepted");
-        let kinds: Vec<u8> = lexed.tokens.iter().map(|t| t.kind).collect();
-        let calls: Vec<Call> = (0..crate::readers::STEPS).map(|_| calls::draw(&mut numbers, &kinds)).collect();
-        held.calls(&text, &calls)
-    })
 }
 
 /// The scripts of the examples, as far as they are accepted.

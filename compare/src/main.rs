@@ -14,7 +14,7 @@ mod scripts;
 
 #[cfg(oracle)]
 mod bench;
-#[cfg(all(oracle, feature = "mutants"))]
+#[cfg(oracle)]
 mod calls;
 #[cfg(test)]
 mod changes;

@@ -14,12 +14,9 @@ pub trait Lexing {
         Self: Sized;
     fn tokenize(&mut self) -> Vec<Token>;
     fn errors(&self) -> Vec<Mistake>;
-    #[cfg(feature = "mutants")]
     fn next_token(&mut self) -> Token;
-    /// An error has its span.
-    #[cfg(feature = "mutants")]
-    fn consume(&mut self, kind: u8) -> Result<Token, Span>;
-    #[cfg(feature = "mutants")]
+    /// An error has its message and its span.
+    fn consume(&mut self, kind: u8) -> Result<Token, (String, Span)>;
     fn match_kind(&mut self, kind: u8) -> bool;
 }
 
@@ -36,17 +33,14 @@ macro_rules! lexing {
             fn errors(&self) -> Vec<crate::lexed::Mistake> {
                 <$lexer>::errors(self).iter().map(|e| crate::oracle::error(&e.message, crate::oracle::span!(e.span))).collect()
             }
-            #[cfg(feature = "mutants")]
             fn next_token(&mut self) -> crate::lexed::Token {
                 let t = <$lexer>::next_token(self);
                 crate::oracle::token!(t)
             }
-            #[cfg(feature = "mutants")]
-            fn consume(&mut self, kind: u8) -> Result<crate::lexed::Token, crate::lexed::Span> {
+            fn consume(&mut self, kind: u8) -> Result<crate::lexed::Token, (String, crate::lexed::Span)> {
                 let answer = <$lexer>::consume(self, $kinds[usize::from(kind)]);
-                answer.map(|t| crate::oracle::token!(t)).map_err(|e| crate::oracle::span!(e.span))
+                answer.map(|t| crate::oracle::token!(t)).map_err(|e| (e.message, crate::oracle::span!(e.span)))
             }
-            #[cfg(feature = "mutants")]
             fn match_kind(&mut self, kind: u8) -> bool {
                 <$lexer>::match_kind(self, $kinds[usize::from(kind)])
             }
