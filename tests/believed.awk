@@ -36,7 +36,7 @@ function brings(line, file, home,    crate, part, rest, n, i, names, name) {
 
 # Marks the definitions that a text names, given where the names stand.
 function names_in(text, home, where,    name, n, i, parts, words, k, word) {
-    gsub(/[(){},;⌜⌝]/, " ", text)
+    gsub(/[(){},;]|⌜|⌝/, " ", text)
     n = split(text, words, /[ \t]+/)
     delete said
     for (i = 1; i <= n; i++) {
@@ -57,7 +57,6 @@ function names_in(text, home, where,    name, n, i, parts, words, k, word) {
 }
 
 function mark(spec, where,    file, i) {
-    names++
     if (spec in marked) return
     marked[spec] = 1
     if (!(spec in listed)) fail("docs/READING.md does not list " spec ", which " where " names")
