@@ -20,6 +20,7 @@ use Rattle.spans.specs.declared.Position.{Position}
 use Rattle.rules.specs.Text.{Text, LF}
 use Rattle.rules.specs.Scan.{next, startsWith, Part}
 use Rattle.rules.specs.Lexer.{advance, advances}
+use Rattle.rules.specs.Script.{LIMIT}
 use Rattle.bridge.specs.Bridge.{Within, Fits, Reach, onward, exactly, Flat, Cut}
 use Rattle.bridge.proofs.Tests.{low-is}
 use Rattle.bridge.proofs.Bytes.{next-cons, starts-first, starts-rest, starts-self}
@@ -57,7 +58,7 @@ unfolding advance
 advance-along p c n w e = rw (w, ne-eqb c LF e, add-one (p .col))
 
 -- In a text there is room for as many bytes more.
-pub within-fits : (s : List ℕ) (p : Position) (n : ℕ) → Within s p → n ≤ 1048576 → Fits p n
+pub within-fits : (s : List ℕ) (p : Position) (n : ℕ) → Within s p → n ≤ LIMIT → Fits p n
 within-fits s p n w h = let z = w .size in let i = w .inside in record { places = omega arith; lines = w .lines; columns = w .columns }
 
 -- ── Reaches one after the other ──

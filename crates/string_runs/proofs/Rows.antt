@@ -17,6 +17,7 @@ use Rattle.rules.specs.Scan.{run}
 use Rattle.rules.specs.Tables.{ESCAPES, lookup}
 use Rattle.rules.specs.Tokens.{TokenizeError}
 use Rattle.rules.specs.Lexer.{advances}
+use Rattle.rules.specs.Script.{LIMIT}
 use Rattle.cursor.specs.Strings.{unitOf, stands, unitsMade, unitsErrors, unitsAhead}
 use Rattle.cursor.proofs.Units.{Whole, made-none, errors-none, unit-made, unit-errors, whole-unit, ahead-stops}
 use Rattle.bridge.specs.Bridge.{Within, Reach, PastRun, onward, exactly}
@@ -142,7 +143,7 @@ wrote-start s p texts ut w = record { bytes = []; units = units-none s p w; made
 
 module _ (s : List ℕ) (p q : Position) (texts texts′ : List ℕ) (ut mt : ℕ) (y : Wrote s p q texts texts′ ut mt) where
   -- So many bytes are written.
-  pub wrote-few : (mt + p .offset ≤ ut + q .offset) × (q .offset ≤ 1048576)
+  pub wrote-few : (mt + p .offset ≤ ut + q .offset) × (q .offset ≤ LIMIT)
   wrote-few =
       let w = y .units .reach .within in
       (omega (arith, y .made .place, y .units .small), omega (arith, w .size, w .inside))
