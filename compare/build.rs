@@ -9,18 +9,16 @@ mod changes;
 use changes::Change;
 
 /// The modules of the original, by their paths: they name each other by `crate::`, so they stand at the crate's root.
-fn original(src: &Path) -> String {
-    let mut text = String::from("#[path = \"SRC/span.rs\"]\n#[allow(dead_code)]\npub mod span;\n");
-    text += "pub use span::Span;\n";
-    text += "#[path = \"SRC/token.rs\"]\n#[allow(dead_code)]\npub mod token;\n";
-    text += "#[path = \"SRC/lexer.rs\"]\n#[allow(dead_code)]\npub mod lexer;\n";
-    text += "/// The source of the token kinds, for their names.\npub const TOKEN_RS: &str = include_str!(\"SRC/token.rs\");\n";
-    text += "/// The sources that are changed.\n#[cfg(test)]\npub const LEXER_RS: &str = include_str!(\"SRC/lexer.rs\");\n";
-    text += "#[cfg(test)]\npub const SPAN_RS: &str = include_str!(\"SRC/span.rs\");\n";
+fn original(src: &Path) -> Result<String, String> {
+    let path = |file: &str| src.join(file).display().to_string();
+    let module = |name: &str| format!("#[path = {:?}]\n#[allow(dead_code, clippy::all)]\npub mod {name};\n", path(&format!("{name}.rs")));
+    let include = |name: &str, file: &str| format!("pub const {name}: &str = include_str!({:?});\n", path(file));
+    let mut text = ["span", "token", "lexer"].map(module).concat() + "pub use span::Span;\n";
+    text += &(include("LEXER_RS", "lexer.rs") + &include("TOKEN_RS", "token.rs") + &include("SPAN_RS", "span.rs"));
+    text += &format!("/// The folder of the sources.\npub const SOURCES: &str = {:?};\n", path(""));
     text += "/// The token kinds by their numbers.\n";
-    text = text.replace("SRC", &src.display().to_string());
-    let token_rs = fs::read_to_string(src.join("token.rs")).expect("token.rs stands beside lexer.rs");
-    text + &kinds(&token_rs, "token::")
+    let token_rs = fs::read_to_string(src.join("token.rs")).map_err(|e| format!("token.rs: {e}"))?;
+    Ok(text + &kinds(&token_rs, "token::"))
 }
 
 /// The list of the token kinds in their order, by which a number is made a kind.
@@ -76,28 +74,44 @@ fn mutants(folder: &Path, src: &Path, out: &Path) -> Result<String, String> {
     Ok(text + "];\n")
 }
 
-fn main() {
-    let here = PathBuf::from(env::var("CARGO_MANIFEST_DIR").expect("cargo sets it"));
-    println!("cargo:rerun-if-env-changed=AURA_SRC");
-    println!("cargo:rustc-check-cfg=cfg(oracle)");
-    let src = env::var("AURA_SRC").map(PathBuf::from).unwrap_or(here.join("../../shared/docs/src/seed/compiler/src"));
-    let out = PathBuf::from(env::var("OUT_DIR").expect("cargo sets it"));
-    let mut text = String::new();
-    if let Some(src) = src.canonicalize().ok().filter(|src| src.join("lexer.rs").is_file()) {
-        println!("cargo:rustc-cfg=oracle");
-        println!("cargo:rerun-if-changed={}", src.display());
-        text = original(&src);
-        if env::var("CARGO_FEATURE_MUTANTS").is_ok() {
-            let folder = here.join("mutants");
-            println!("cargo:rerun-if-changed={}", folder.display());
-            match mutants(&folder, &src, &out) {
-                Ok(list) => fs::write(out.join("mutants.rs"), list).expect("the build folder can be written"),
-                Err(why) => {
-                    println!("cargo::error={why}");
-                    return;
-                }
-            }
-        }
+/// The files that make the original.
+const FILES: [&str; 3] = ["lexer.rs", "token.rs", "span.rs"];
+
+/// The folder of the original's sources, if all are there. A later build looks again, whether they are there now or not.
+fn sources(here: &Path) -> Option<PathBuf> {
+    println!("cargo::rerun-if-env-changed=AURA_SRC");
+    let folder =
+        env::var_os("AURA_SRC").filter(|name| !name.is_empty()).map_or(here.join("../../shared/docs/src/seed/compiler/src"), PathBuf::from);
+    println!("cargo::rerun-if-changed={}", folder.display());
+    for file in FILES {
+        println!("cargo::rerun-if-changed={}", folder.join(file).display());
     }
-    fs::write(out.join("original.rs"), text).expect("the build folder can be written");
+    let missing: Vec<&str> = FILES.into_iter().filter(|file| !folder.join(file).is_file()).collect();
+    if missing.is_empty() {
+        return folder.canonicalize().ok();
+    }
+    let (missing, folder) = (missing.join(", "), folder.display());
+    println!("cargo::warning=built without the original lexer: {folder} has no {missing}; set AURA_SRC to the folder of its sources");
+    None
+}
+
+/// Writes what is taken in of the original, which is nothing where its sources are not at hand.
+fn write(here: &Path, src: Option<&Path>, out: &Path) -> Result<(), String> {
+    let put = |file: &str, text: &str| fs::write(out.join(file), text).map_err(|e| format!("{file}: {e}"));
+    let Some(src) = src else { return put("original.rs", "") };
+    println!("cargo::rustc-cfg=oracle");
+    if env::var_os("CARGO_FEATURE_MUTANTS").is_some() {
+        let folder = here.join("mutants");
+        println!("cargo::rerun-if-changed={}", folder.display());
+        put("mutants.rs", &mutants(&folder, src, out)?)?;
+    }
+    put("original.rs", &original(src)?)
+}
+
+fn main() {
+    let [here, out] = ["CARGO_MANIFEST_DIR", "OUT_DIR"].map(|name| PathBuf::from(env::var_os(name).expect("cargo sets it")));
+    println!("cargo::rustc-check-cfg=cfg(oracle)");
+    if let Err(why) = write(&here, sources(&here).as_deref(), &out) {
+        println!("cargo::error={why}");
+    }
 }

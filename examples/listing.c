@@ -1,70 +1,62 @@
 /* Lists the tokens and errors of an Aura script, in the form of document 01's program `tokens`: listing [FILE]
- * Without FILE it reads standard input. The exit status is 0, 1 for a refusal, 2 where the script can't be read. */
-#include "aura_kinds.h"
+ * Without FILE it reads standard input. The exit status is 0, 1 for a refusal, 2 where the script can't be read or the listing
+ * can't be written. Of a script over the limit it keeps one byte over the limit, and counts the others. */
 #include "aura_lexer.h"
 
 #include <inttypes.h>
 #include <stdio.h>
 #include <stdlib.h>
-#include <string.h>
 
-#define SPELLING(name, spelling) spelling,
-static const char *const spellings[] = { AURA_KINDS(SPELLING) };
+enum { LISTED = 0, REFUSED = 1, STOPPED = 2 };
 
 struct lexed {
-    const uint8_t *script;
-    size_t length;
-    uint8_t *tokens, *texts, *errors;
+    uint8_t *script, *tokens, *texts, *errors;
+    size_t length; /* the bytes of the script that are kept */
+    uint64_t whole; /* the bytes of the whole script */
     uint64_t used[AURA_USED_SLOTS];
 };
 
-static void stop(const char *what, const char *name) {
+static int stopped(const char *what, const char *name) {
     fprintf(stderr, "listing: %s%s\n", what, name);
-    exit(2);
+    return STOPPED;
 }
 
-/* Never NULL, also for 0 bytes. */
+/* NULL only where there is no memory, also for 0 bytes. */
 static uint8_t *room(size_t size) {
-    uint8_t *bytes = malloc(size + 1);
-    if (bytes == NULL) stop("no memory", "");
-    return bytes;
+    return malloc(size + 1);
 }
 
-static uint8_t *read_all(FILE *file, const char *name, size_t *length) {
-    size_t size = 4096;
-    uint8_t *bytes = room(size);
-    *length = 0;
-    for (;;) {
-        *length += fread(bytes + *length, 1, size - *length, file);
-        if (ferror(file)) stop("cannot read ", name);
-        if (*length < size) return bytes;
-        size *= 2;
-        bytes = realloc(bytes, size);
-        if (bytes == NULL) stop("no memory", "");
-    }
+static void release(struct lexed *l) {
+    free(l->script);
+    free(l->tokens);
+    free(l->texts);
+    free(l->errors);
 }
 
-/* Tokenises in one pass. A script over the limit is refused before any buffer is used. */
-static uint64_t tokenize(struct lexed *l) {
+static void read_script(FILE *file, struct lexed *l) {
+    uint8_t rest[4096];
+    size_t count;
+    l->length = fread(l->script, 1, AURA_LIMIT + 1, file);
+    l->whole = l->length;
+    while ((count = fread(rest, 1, sizeof rest, file)) > 0) l->whole += count;
+}
+
+/* Whether there was memory for the buffers. A script over the limit is refused before any buffer is used. */
+static int tokenize(struct lexed *l, uint64_t *number) {
     size_t n = l->length <= AURA_LIMIT ? l->length : 0;
     l->tokens = room(AURA_TOKENS_ROOM(n));
     l->texts = room(AURA_TEXTS_ROOM(n));
     l->errors = room(AURA_ERRORS_ROOM(n));
-    return aura_tokenize(l->script, l->length, l->tokens, AURA_TOKENS_ROOM(n), l->texts, AURA_TEXTS_ROOM(n),
-                         l->errors, AURA_ERRORS_ROOM(n), l->used);
+    if (l->tokens == NULL || l->texts == NULL || l->errors == NULL) return 0;
+    *number = aura_tokenize(l->script, l->length, l->tokens, AURA_TOKENS_ROOM(n), l->texts, AURA_TEXTS_ROOM(n),
+                            l->errors, AURA_ERRORS_ROOM(n), l->used);
+    return 1;
 }
 
-/* The text that a token's record refers to; none for a kind with a fixed spelling. */
-static const uint8_t *text_of(const struct lexed *l, const uint64_t token[AURA_TOKEN_SLOTS]) {
-    switch (token[AURA_KIND]) {
-    case AURA_KIND_StringLiteral: case AURA_KIND_CharLiteral: case AURA_KIND_StringInterpStart: case AURA_KIND_DocComment:
-        return l->texts + token[AURA_TEXT_OFFSET];
-    case AURA_KIND_IntLiteral: case AURA_KIND_FloatLiteral: case AURA_KIND_BoolLiteral: case AURA_KIND_Ident:
-    case AURA_KIND_Unit: case AURA_KIND_Error:
-        return l->script + aura_mark_length(l->script, l->length) + token[AURA_TEXT_OFFSET];
-    default:
-        return NULL;
-    }
+static int print_refusal(const struct lexed *l, uint64_t number) {
+    uint64_t figure = number == AURA_REFUSED_LENGTH ? l->whole : l->used[AURA_FIGURE];
+    printf("refused %" PRIu64 " %" PRIu64 "\n", number, figure);
+    return REFUSED;
 }
 
 static void print_fields(char letter, const uint64_t record[]) {
@@ -72,23 +64,25 @@ static void print_fields(char letter, const uint64_t record[]) {
     for (int i = AURA_START; i <= AURA_END_COLUMN; i++) printf(" %" PRIu64, record[i]);
 }
 
-static void print_text(const uint8_t *text, size_t length) {
-    printf(length == 0 ? " -" : " ");
-    for (size_t i = 0; i < length; i++) printf("%02x", text[i]);
+static void print_text(aura_text text) {
+    printf(text.length == 0 ? " -" : " ");
+    for (size_t i = 0; i < text.length; i++) printf("%02x", text.bytes[i]);
     printf("\n");
 }
 
-static void print_tokens(const struct lexed *l) {
-    uint64_t token[AURA_TOKEN_SLOTS] = {0};
+/* Whether each record was whole and its text in its buffer. */
+static int print_tokens(const struct lexed *l) {
+    uint64_t token[AURA_TOKEN_SLOTS] = {0}, figure[AURA_CHECK_SLOTS];
+    aura_text text;
     for (uint64_t i = 0; i < l->used[AURA_USED_COUNT]; i++) {
-        if (aura_next_token(l->tokens, l->used[AURA_USED_TOKENS], token[AURA_NEXT_PLACE], token) != AURA_YES)
-            stop("no whole token record", "");
-        const uint8_t *text = text_of(l, token);
-        const char *spelling = spellings[token[AURA_KIND]];
+        size_t place = token[AURA_NEXT_PLACE], size = l->used[AURA_USED_TOKENS];
+        if (aura_next_token(l->tokens, size, place, token) != AURA_YES) return 0;
+        if (aura_token_text(l->script, l->length, l->texts, l->used[AURA_USED_TEXTS], l->tokens, size, place, &text, figure)
+            != AURA_YES) return 0;
         print_fields('T', token);
-        if (text != NULL) print_text(text, token[AURA_TEXT_LENGTH]);
-        else print_text((const uint8_t *)spelling, strlen(spelling));
+        print_text(text);
     }
+    return 1;
 }
 
 static void print_errors(const struct lexed *l) {
@@ -101,20 +95,30 @@ static void print_errors(const struct lexed *l) {
     }
 }
 
+/* The exit status. What it takes stands in l, also where it stops. */
+static int list(FILE *file, const char *name, struct lexed *l) {
+    uint64_t number;
+    l->script = room(AURA_LIMIT + 1);
+    if (l->script == NULL) return stopped("no memory", "");
+    read_script(file, l);
+    if (ferror(file)) return stopped("cannot read ", name);
+    if (!tokenize(l, &number)) return stopped("no memory", "");
+    if (number != AURA_YES) return print_refusal(l, number);
+    if (!print_tokens(l)) return stopped("no whole token record", "");
+    print_errors(l);
+    printf(l->used[AURA_USED_CLOSED] ? "closed\n" : "open\n");
+    return LISTED;
+}
+
 int main(int count, char **words) {
     const char *name = count > 1 ? words[1] : "standard input";
     FILE *file = count > 1 ? fopen(name, "rb") : stdin;
-    if (file == NULL) stop("cannot open ", name);
-    struct lexed l;
-    l.script = read_all(file, name, &l.length);
-    uint64_t number = tokenize(&l);
-    if (number != AURA_YES) {
-        printf("refused %" PRIu64 " %" PRIu64 "\n", number, l.used[AURA_FIGURE]);
-        return 1;
-    }
-    print_tokens(&l);
-    print_errors(&l);
-    printf(l.used[AURA_USED_CLOSED] ? "closed\n" : "open\n");
-    if (fflush(stdout) != 0) stop("cannot write to standard output", "");
-    return 0;
+    struct lexed l = {0};
+    if (file == NULL) return stopped("cannot open ", name);
+    int status = list(file, name, &l);
+    release(&l);
+    fclose(file);
+    int unwritten = ferror(stdout);
+    if (fclose(stdout) != 0 || unwritten) return stopped("cannot write to standard output", "");
+    return status;
 }

@@ -1,4 +1,7 @@
-/* The proved Aura lexer: the calls of the static library libaura_host.a, for C99 and C++.
+/* The proved Aura lexer: the calls of the static library libaura_host.a, for C99 and C++11.
+ *
+ * The library is for x86-64 Linux alone, whatever machine it was built on: ELF, position-independent code, 64-bit sizes. From the
+ * host it takes memcpy only, and this header takes stddef.h and stdint.h only.
  *
  * Every call
  *   - keeps no memory of its own, takes no heap and starts nothing, so calls may run on several threads at a time;
@@ -16,6 +19,9 @@
 #ifndef AURA_LEXER_H
 #define AURA_LEXER_H
 
+#include "aura_kinds.h"
+#include "aura_words.h"
+
 #include <stddef.h>
 #include <stdint.h>
 
@@ -23,7 +29,16 @@
 extern "C" {
 #endif
 
-/* The library is for machines with 64-bit sizes. */
+/* The version of the calls, the headers and the crate for Rust. */
+#define AURA_VERSION "0.2.0"
+#define AURA_VERSION_MAJOR 0
+#define AURA_VERSION_MINOR 2
+#define AURA_VERSION_PATCH 0
+
+/* The commit of onlynight/AuraLang whose lexer this one is a translation of. */
+#define AURA_ORIGINAL "c401ce55f2"
+
+/* A compiler for 32-bit sizes stops here. */
 typedef char aura_size_has_64_bits[sizeof(size_t) == 8 ? 1 : -1];
 
 /* The longest script, in bytes, its byte-order mark counted. */
@@ -34,44 +49,19 @@ typedef char aura_size_has_64_bits[sizeof(size_t) == 8 ? 1 : -1];
 #define AURA_TEXTS_ROOM(n) (2 * (size_t)(n) + 2)
 #define AURA_ERRORS_ROOM(n) (29 * (size_t)(n))
 
-/* The numbers of the refusals, with their figures. */
-enum {
-    AURA_YES = 0,
-    AURA_REFUSED_LENGTH = 1, /* the script is over AURA_LIMIT bytes; its length */
-    AURA_REFUSED_UTF8 = 2,   /* the script is not UTF-8; the first byte of the first bad sequence, the mark counted */
-    AURA_REFUSED_TOKENS = 3, /* the token buffer is too small; the bytes needed */
-    AURA_REFUSED_TEXTS = 4,  /* the text buffer is too small; the bytes needed */
-    AURA_REFUSED_ERRORS = 5, /* the error buffer is too small; the bytes needed */
-    AURA_REFUSED_KIND = 6,   /* a kind over 125 was asked for; that kind */
-    AURA_REFUSED_PLACE = 7,  /* no whole record of a known kind starts at the place; the place */
-    AURA_REFUSED_TEXT = 8    /* the record's text lies outside its buffer; its offset */
-};
-
-/* The kinds of errors. */
-enum {
-    AURA_ERROR_CHARACTER = 1,      /* a character that begins no token; its code point is in the record */
-    AURA_ERROR_COMMENT = 2,        /* a block comment without its end */
-    AURA_ERROR_RAW_STRING = 3,     /* a raw string without its end */
-    AURA_ERROR_STRING_END = 4,     /* a string without its end, at the end of the text */
-    AURA_ERROR_STRING_LINE = 5,    /* a string without its end, at a line feed */
-    AURA_ERROR_UNICODE = 6,        /* \u without four hexadecimal digits */
-    AURA_ERROR_ESCAPE = 7,         /* a backslash before another character; its code point is in the record */
-    AURA_ERROR_INTERPOLATION = 8,  /* ${ in a string without its } */
-    AURA_ERROR_CHAR_LITERAL = 9,   /* a character literal without its closing quote */
-    AURA_ERROR_DOC_COMMENT = 10    /* a block doc comment without its end */
-};
-
-/* Records. All numbers are 32-bit little-endian. Offsets count bytes after the script's byte-order mark.
+/* Records. The kind is one byte, all other numbers are 32-bit little-endian. Offsets count bytes after the script's byte-order mark.
+ * Lines and columns count from 1, columns in characters; behind a line feed skipped as white space the record's column is one more
+ * than an editor's (document 01, until it is changed).
  *
  *   token record   0 kind, 1 start, 5 end, 9 start line, 13 start column, 17 end line, 21 end column: 25 bytes; the kinds
  *                  0 to 5, 39, 121, 123 and 125 go on with 25 text offset, 29 text length: 33 bytes
  *   error record   the same 25 bytes with the error's kind; 1 and 7 go on with 25 code point: 29 bytes
  *
  * The text of the kinds 2, 3, 121 and 123 is a part of the text buffer, that of 0, 1, 4, 5, 39 and 125 a part of the script after
- * its mark. Other kinds have a fixed spelling or none (aura_kinds.h).
+ * its mark. Other kinds have a fixed spelling or none (aura_kinds.h). aura_token_text gives the text of any kind.
  *
  * end is the offset of the last character for names and keywords (kinds 4 to 68), equals start for a lone mark, and is one past
- * the last character for all others. */
+ * the last character for all others. Pieces of one string share its start. */
 
 /* The slots of each answer. The first is set by a refusal only, the others by a yes only. */
 enum { AURA_FIGURE = 0 };
@@ -107,7 +97,7 @@ enum {
     AURA_ERROR_SLOTS = 10
 };
 
-/* aura_text_check: the figure alone. */
+/* aura_text_check, aura_token_text: the figure alone. */
 enum { AURA_CHECK_SLOTS = 1 };
 
 /* Tokenises a script into three lent buffers. Bytes beyond those used keep. Refusals 1 to 5. */
@@ -153,6 +143,62 @@ uint64_t aura_is_white(uint32_t code);
 /* Writes a character as UTF-8 at a place of the buffer: the bytes written, 1 to 4; or 0 where the code point is no character or
  * does not fit, and then the buffer keeps. */
 uint64_t aura_encode_char(uint32_t code, uint8_t *buffer, size_t length, size_t at);
+
+/* A text: so many bytes. A zero byte behind them is not promised. */
+typedef struct aura_text {
+    const uint8_t *bytes;
+    size_t length;
+} aura_text;
+
+/* The fixed spelling of a kind as a text; empty for a kind without one and for a number over 125. */
+#define AURA_ROW(number, name, spelling) \
+    case number: \
+        text.bytes = (const uint8_t *)spelling; \
+        text.length = sizeof spelling - 1; \
+        break;
+static inline aura_text aura_spelling_text(uint64_t kind) {
+    aura_text text = {(const uint8_t *)"", 0};
+    switch (kind) {
+    AURA_KINDS(AURA_ROW)
+    default: break;
+    }
+    return text;
+}
+#undef AURA_ROW
+
+/* The text of the token record at a place. The arguments are those of aura_text_check and the text to set; the script is lent with
+ * its mark. A yes sets the text and keeps the figure:
+ *   kinds 2, 3, 121, 123             a part of the text buffer
+ *   kinds 0, 1, 4, 5, 39, 125        a part of the script
+ *   other kinds                      the fixed spelling; no bytes for EOF and for a kind that is never made
+ * Its pointer is never NULL, and it is good as long as the script and the text buffer are. A refusal sets the figure and keeps the
+ * text: 7, the place; 8, the offset of the record's text. */
+static inline uint64_t aura_token_text(const uint8_t *script, size_t script_length,
+                                       const uint8_t *texts, size_t texts_length,
+                                       const uint8_t *tokens, size_t tokens_length,
+                                       size_t place, aura_text *text, uint64_t answer[AURA_CHECK_SLOTS]) {
+    uint64_t token[AURA_TOKEN_SLOTS];
+    uint64_t number = aura_next_token(tokens, tokens_length, place, token);
+    if (number != AURA_YES) {
+        answer[AURA_FIGURE] = token[AURA_FIGURE];
+        return number;
+    }
+    number = aura_text_check(script, script_length, texts, texts_length, tokens, tokens_length, place, answer);
+    if (number != AURA_YES) return number;
+    switch (token[AURA_KIND]) {
+    case AURA_KIND_StringLiteral: case AURA_KIND_CharLiteral: case AURA_KIND_StringInterpStart: case AURA_KIND_DocComment:
+        text->bytes = texts + token[AURA_TEXT_OFFSET];
+        text->length = token[AURA_TEXT_LENGTH];
+        break;
+    case AURA_KIND_IntLiteral: case AURA_KIND_FloatLiteral: case AURA_KIND_BoolLiteral: case AURA_KIND_Ident:
+    case AURA_KIND_Unit: case AURA_KIND_Error:
+        text->bytes = script + aura_mark_length(script, script_length) + token[AURA_TEXT_OFFSET];
+        text->length = token[AURA_TEXT_LENGTH];
+        break;
+    default: *text = aura_spelling_text(token[AURA_KIND]); break;
+    }
+    return AURA_YES;
+}
 
 #ifdef __cplusplus
 }

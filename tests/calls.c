@@ -1,5 +1,5 @@
-/* Every exported call from C, with the slots that it sets and those that it has to keep. */
-#include "aura_kinds.h"
+/* Every exported call from C or C++, with the slots that it sets and those that it has to keep; and what the headers have beside
+ * them: the kinds, the words, the texts of tokens, the version. */
 #include "aura_lexer.h"
 
 #include <stdio.h>
@@ -9,6 +9,11 @@
 #define GUARD 0xA5
 #define N 64
 #define SLOTS 16
+#ifdef __cplusplus
+#define LANGUAGE "C++"
+#else
+#define LANGUAGE "C"
+#endif
 
 static int done, failed;
 static uint64_t slots[SLOTS];
@@ -67,7 +72,7 @@ static void refused_scripts(void) {
     CHECK(refused(tokenize("'a'", 3, N, 0, 0), AURA_REFUSED_TEXTS, 1));
     CHECK(refused(tokenize("''", 2, N, N, 24), AURA_REFUSED_ERRORS, 25));
     CHECK(all_guard(tokens, 0, sizeof tokens) && all_guard(texts, 0, sizeof texts) && all_guard(errors, 0, sizeof errors));
-    static const uint8_t zeros[AURA_LIMIT + 1];
+    static const uint8_t zeros[AURA_LIMIT + 1] = {0};
     CHECK(refused(aura_measure(zeros, AURA_LIMIT + 1, fresh()), AURA_REFUSED_LENGTH, AURA_LIMIT + 1));
     CHECK(aura_measure(zeros, AURA_LIMIT, fresh()) == AURA_YES && slots[AURA_USED_ERRORS] == AURA_ERRORS_ROOM(AURA_LIMIT));
 }
@@ -163,6 +168,133 @@ static void characters(void) {
     CHECK(aura_encode_char(0x20AC, buffer, 4, 1) == 3 && memcmp(buffer, "\xA5\xE2\x82\xAC", 4) == 0);
 }
 
+/* The texts of a script with a token of each home: s the script, t the text buffer, f a fixed spelling. */
+static const struct row { uint64_t kind; char home; const char *text; } rows[] = {
+    {AURA_KIND_IntLiteral, 's', "1"}, {AURA_KIND_FloatLiteral, 's', "2.5"}, {AURA_KIND_StringLiteral, 't', "s\n"},
+    {AURA_KIND_CharLiteral, 't', "c"}, {AURA_KIND_BoolLiteral, 's', "true"}, {AURA_KIND_Ident, 's', "x"},
+    {AURA_KIND_Unit, 's', "Unit"}, {AURA_KIND_StringInterpStart, 't', "$i"}, {AURA_KIND_DoubleColonT, 'f', "::="},
+    {AURA_KIND_Error, 's', "\a"}, {AURA_KIND_DocComment, 't', "d"}, {AURA_KIND_EOF, 'f', ""}
+};
+#define ROWS (sizeof rows / sizeof rows[0])
+#define MARK "\xEF\xBB\xBF"
+#define SCRIPT "1 2.5 \"s\\n\" 'c' true x Unit \"$i\" := \a /// d"
+
+static int inside(const uint8_t *part, const uint8_t *whole, size_t length) {
+    return (uintptr_t)part >= (uintptr_t)whole && (uintptr_t)part < (uintptr_t)whole + length;
+}
+
+static char home_of(aura_text text, const char *script, size_t length) {
+    if (inside(text.bytes, (const uint8_t *)script, length)) return 's';
+    return inside(text.bytes, texts, sizeof texts) ? 't' : 'f';
+}
+
+/* Each token has its text, in its home. */
+static void token_texts(const char *script) {
+    size_t length = strlen(script), place = 0;
+    uint64_t used[AURA_USED_SLOTS] = {0}, token[AURA_TOKEN_SLOTS] = {0};
+    CHECK(tokenize(script, length, sizeof tokens, sizeof texts, sizeof errors) == AURA_YES);
+    memcpy(used, slots, sizeof used);
+    CHECK(used[AURA_USED_COUNT] == ROWS);
+    for (size_t i = 0; i < ROWS; i++, place = token[AURA_NEXT_PLACE]) {
+        aura_text text = {NULL, 99};
+        CHECK(yes(aura_token_text((const uint8_t *)script, length, texts, used[AURA_USED_TEXTS], tokens, used[AURA_USED_TOKENS],
+                                  place, &text, fresh()), AURA_CHECK_SLOTS));
+        CHECK(text.bytes != NULL && text.length == strlen(rows[i].text) && memcmp(text.bytes, rows[i].text, text.length) == 0);
+        CHECK(home_of(text, script, length) == rows[i].home);
+        CHECK(aura_next_token(tokens, used[AURA_USED_TOKENS], place, token) == AURA_YES && token[AURA_KIND] == rows[i].kind);
+    }
+}
+
+/* Whether the text at a place is refused with this number and figure, and the text keeps. */
+static int text_refused(size_t script_length, size_t texts_length, size_t tokens_length, size_t place,
+                        uint64_t number, uint64_t figure) {
+    const uint8_t *script = (const uint8_t *)MARK SCRIPT;
+    aura_text text = {script, 99};
+    uint64_t got = aura_token_text(script, script_length, texts, texts_length, tokens, tokens_length, place, &text, fresh());
+    return refused(got, number, figure) && text.bytes == script && text.length == 99;
+}
+
+/* Lengths that are too short, and damaged records. They leave the text as it is. */
+static void refused_texts(void) {
+    size_t length = strlen(MARK SCRIPT);
+    CHECK(tokenize(MARK SCRIPT, length, sizeof tokens, sizeof texts, sizeof errors) == AURA_YES);
+    size_t tokens_length = slots[AURA_USED_TOKENS], texts_length = slots[AURA_USED_TEXTS];
+    CHECK(text_refused(length, texts_length, tokens_length, tokens_length, AURA_REFUSED_PLACE, tokens_length));
+    CHECK(text_refused(length, texts_length, tokens_length, SIZE_MAX, AURA_REFUSED_PLACE, SIZE_MAX));
+    CHECK(text_refused(length, texts_length, 32, 0, AURA_REFUSED_PLACE, 0));
+    CHECK(text_refused(length, texts_length, 0, 0, AURA_REFUSED_PLACE, 0));
+    CHECK(text_refused(3, texts_length, tokens_length, 0, AURA_REFUSED_TEXT, 0));
+    CHECK(text_refused(7, texts_length, tokens_length, 33, AURA_REFUSED_TEXT, 2));
+    CHECK(text_refused(length, 1, tokens_length, 66, AURA_REFUSED_TEXT, 0));
+    CHECK(text_refused(length, 2, tokens_length, 99, AURA_REFUSED_TEXT, 2));
+    memset(tokens + 25, 0xFF, 4);
+    CHECK(text_refused(length, texts_length, tokens_length, 0, AURA_REFUSED_TEXT, 0xFFFFFFFF));
+    tokens[0] = AURA_KIND_COUNT;
+    CHECK(text_refused(length, texts_length, tokens_length, 0, AURA_REFUSED_PLACE, 0));
+    tokens[0] = AURA_KIND_Channel;
+    aura_text text = {NULL, 99};
+    CHECK(yes(aura_token_text(tokens, 0, texts, 0, tokens, 25, 0, &text, fresh()), AURA_CHECK_SLOTS));
+    CHECK(text.bytes != NULL && text.length == 0);
+}
+
+#define NUMBER(number, name, spelling) number,
+#define CONSTANT(number, name, spelling) AURA_KIND_##name,
+
+/* The rows are numbered from 0 on, and each spelling is the same as a text. */
+static void kinds(void) {
+    static const uint64_t numbers[] = {AURA_KINDS(NUMBER)}, constants[] = {AURA_KINDS(CONSTANT)};
+    CHECK(AURA_KIND_COUNT == 126 && sizeof numbers / sizeof numbers[0] == AURA_KIND_COUNT);
+    for (uint64_t i = 0; i < AURA_KIND_COUNT; i++) {
+        CHECK(numbers[i] == i && constants[i] == i);
+        const char *name = aura_kind_name(i), *spelling = aura_kind_spelling(i);
+        CHECK(name != NULL && name[0] != '\0' && spelling != NULL);
+        aura_text text = aura_spelling_text(i);
+        CHECK(text.length == strlen(spelling) && memcmp(text.bytes, spelling, text.length) == 0);
+    }
+    CHECK(strcmp(aura_kind_name(0), "IntLiteral") == 0 && strcmp(aura_kind_name(124), "EOF") == 0);
+    CHECK(strcmp(aura_kind_spelling(AURA_KIND_Val), "val") == 0 && strcmp(aura_kind_spelling(AURA_KIND_DoubleQMark), "?" "?") == 0);
+    CHECK(aura_kind_name(126) == NULL && aura_kind_spelling(126) == NULL && aura_kind_spelling(UINT64_MAX) == NULL);
+    CHECK(aura_spelling_text(126).length == 0 && aura_spelling_text(126).bytes != NULL);
+}
+
+/* Whether there are words and they are not empty. */
+static int said(const char *words) {
+    return words != NULL && words[0] != '\0';
+}
+
+static void words(void) {
+    static const uint64_t refusals[] = {AURA_REFUSED_LENGTH, AURA_REFUSED_UTF8, AURA_REFUSED_TOKENS, AURA_REFUSED_TEXTS,
+                                        AURA_REFUSED_ERRORS, AURA_REFUSED_KIND, AURA_REFUSED_PLACE, AURA_REFUSED_TEXT};
+    static const uint64_t mistakes[] = {AURA_ERROR_CHARACTER, AURA_ERROR_COMMENT, AURA_ERROR_RAW_STRING, AURA_ERROR_STRING_END,
+                                        AURA_ERROR_STRING_LINE, AURA_ERROR_UNICODE, AURA_ERROR_ESCAPE, AURA_ERROR_INTERPOLATION,
+                                        AURA_ERROR_CHAR_LITERAL, AURA_ERROR_DOC_COMMENT};
+    static const uint64_t unused[] = {0, 9, 11, 257, UINT64_MAX};
+    for (uint64_t i = 1; i <= 8; i++) {
+        CHECK(refusals[i - 1] == i);
+        CHECK(said(aura_refusal_meaning(i)) && said(aura_refusal_figure(i)) && said(aura_refusal_advice(i)));
+    }
+    for (uint64_t i = 1; i <= 10; i++) {
+        CHECK(mistakes[i - 1] == i);
+        CHECK(said(aura_error_meaning(i)) && said(aura_error_advice(i)));
+    }
+    for (int i = 0; i < 5; i++) {
+        uint64_t number = unused[i];
+        CHECK(aura_refusal_meaning(number) == NULL && aura_refusal_figure(number) == NULL && aura_refusal_advice(number) == NULL);
+        CHECK(number == 9 || (aura_error_meaning(number) == NULL && aura_error_advice(number) == NULL));
+    }
+    CHECK(strcmp(aura_refusal_figure(AURA_REFUSED_LENGTH), "its length") == 0);
+    CHECK(strcmp(aura_error_meaning(AURA_ERROR_UNICODE), "\x5Cu without four hexadecimal digits") == 0);
+    CHECK(strcmp(aura_error_advice(AURA_ERROR_DOC_COMMENT), "close it with *" "/") == 0);
+}
+
+#define TEXT_OF(number) #number
+#define DOTTED(major, minor, patch) TEXT_OF(major) "." TEXT_OF(minor) "." TEXT_OF(patch)
+
+static void version(void) {
+    CHECK(strcmp(AURA_VERSION, DOTTED(AURA_VERSION_MAJOR, AURA_VERSION_MINOR, AURA_VERSION_PATCH)) == 0);
+    CHECK(strlen(AURA_ORIGINAL) == 10 && strspn(AURA_ORIGINAL, "0123456789abcdef") == 10);
+}
+
 int main(void) {
     refused_scripts();
     accepted_script();
@@ -171,10 +303,16 @@ int main(void) {
     refused_token_readers();
     refused_error_reader();
     characters();
+    token_texts(SCRIPT);
+    token_texts(MARK SCRIPT);
+    refused_texts();
+    kinds();
+    words();
+    version();
     if (failed > 0) {
         printf("calls: %d of %d checks failed\n", failed, done);
         return 1;
     }
-    printf("calls: %d checks from C, all hold\n", done);
+    printf("calls: %d checks from " LANGUAGE ", all hold\n", done);
     return 0;
 }

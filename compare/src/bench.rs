@@ -1,12 +1,12 @@
 //! The speed of the original and of the proved lexer, in one run on the same inputs. Speed is told, never tested.
 use crate::check::{self, largest};
+use crate::files;
 use crate::host;
 use crate::imports;
 use crate::lexer::Lexer;
 use crate::mixed;
-use crate::runs;
+use crate::say::{message, say, Status};
 use crate::scripts::{self, Make};
-use std::fs;
 use std::hint::black_box;
 use std::path::Path;
 use std::time::{Duration, Instant};
@@ -147,7 +147,7 @@ fn nanoseconds(bytes: usize, seconds: f64) -> f64 {
 }
 
 fn heading(title: &str) {
-    println!("\n{title:<38} {:>8}  {:<8} {:>13} {:>10} {:>7} {:>8}", "bytes", "buffers", "original MB/s", "ours MB/s", "ratio", "ns/byte");
+    say!("\n{title:<38} {:>8}  {:<8} {:>13} {:>10} {:>7} {:>8}", "bytes", "buffers", "original MB/s", "ours MB/s", "ratio", "ns/byte");
 }
 
 impl Row {
@@ -157,7 +157,7 @@ impl Row {
 
     fn print(&self) {
         for ((buffers, ratio), ours) in self.ratios().into_iter().zip([self.largest, self.fitting]) {
-            println!(
+            say!(
                 "{:<38} {:>8}  {buffers:<8} {:>13.1} {:>10.1} {ratio:>7.2} {:>8.2}",
                 self.name,
                 self.bytes,
@@ -178,11 +178,10 @@ fn row(name: String, scripts: &[String], buffers: &mut Buffers) -> Row {
         assert_eq!(count, Lexer::new(script).tokenize().len(), "both find as many tokens");
     }
     let cell = std::cell::RefCell::new(buffers);
-    let [original, largest, fitting] = best([
-        &mut |runs| original(scripts, runs),
-        &mut |runs| cell.borrow_mut().time(scripts, &most, runs),
-        &mut |runs| cell.borrow_mut().time(scripts, &exact, runs),
-    ]);
+    let [original, largest, fitting] =
+        best([&mut |runs| original(scripts, runs), &mut |runs| cell.borrow_mut().time(scripts, &most, runs), &mut |runs| {
+            cell.borrow_mut().time(scripts, &exact, runs)
+        }]);
     let row = Row { name, bytes: total(scripts), original, largest, fitting };
     row.print();
     row
@@ -276,7 +275,7 @@ fn quadratic(buffers: &mut Buffers) -> Vec<Row> {
     let script = one_string_of_interpolations(1_000_000);
     let n = total(&script);
     let [seconds] = best([&mut |runs| buffers.time(&script, &[largest(n)], runs)]);
-    println!("ours alone on 1 MB of it, largest: {:.1} MB/s, {:.2} ns/byte", speed(n, seconds), nanoseconds(n, seconds));
+    say!("ours alone on 1 MB of it, largest: {:.1} MB/s, {:.2} ns/byte", speed(n, seconds), nanoseconds(n, seconds));
     rows.into()
 }
 
@@ -292,56 +291,51 @@ fn worst(buffers: &mut Buffers) -> Vec<Row> {
     rows
 }
 
-/// The scripts below a folder that both lexers take.
-fn scripts_below(folder: &str) -> std::io::Result<Vec<String>> {
-    let mut files = Vec::new();
-    runs::files_below(Path::new(folder), &mut files)?;
-    let mut scripts = Vec::new();
-    let all = files.len();
-    for file in files {
-        let bytes = fs::read(file)?;
-        if host::measure(&bytes).is_ok() {
-            scripts.extend(String::from_utf8(bytes));
-        }
+/// The scripts at places that both lexers take. An error says why there is none to time.
+fn accepted(places: &[&Path]) -> Result<Vec<String>, String> {
+    let all = files::scripts(places)?;
+    let count = all.len();
+    let accepted = all.into_iter().filter(|script| host::measure(&script.bytes).is_ok());
+    let scripts: Vec<String> = accepted.map(|script| String::from_utf8(script.bytes).expect("it was accepted")).collect();
+    if total(&scripts) == 0 {
+        return Err("all files are refused or empty; name files or folders that hold scripts".to_string());
     }
-    println!("archive: {all} files, {} left out because they are refused", all - scripts.len());
+    say!("archive: {count} files, {} left out because they are refused", count - scripts.len());
     Ok(scripts)
 }
 
 /// Every file as one script, the seconds summed.
-fn archive(folder: &str, buffers: &mut Buffers) -> std::io::Result<Option<Row>> {
-    let scripts = scripts_below(folder)?;
-    if total(&scripts) == 0 {
-        println!("archive: no script to time");
-        return Ok(None);
+fn archive(scripts: &[String], buffers: &mut Buffers) -> Option<Row> {
+    if scripts.is_empty() {
+        say!("\narchive: no file or folder was named");
+        return None;
     }
-    heading("archive folder");
-    Ok(Some(row("archive".to_string(), &scripts, buffers)))
+    heading("archive");
+    Some(row("archive".to_string(), scripts, buffers))
 }
 
 fn measure_alone() {
-    println!("\n{:<38} {:>8} {:>10} {:>8}", "aura_measure alone", "bytes", "MB/s", "ns/byte");
+    say!("\n{:<38} {:>8} {:>10} {:>8}", "aura_measure alone", "bytes", "MB/s", "ns/byte");
     for (name, scripts) in KINDS.iter().flat_map(Kind::rows) {
         let measured = |script: &String| black_box(host::measure(black_box(script.as_bytes()))).is_ok();
         let [seconds] = best([&mut |runs| timed(runs, || scripts.iter().all(measured))]);
         let n = total(&scripts);
-        println!("{name:<38} {n:>8} {:>10.1} {:>8.2}", speed(n, seconds), nanoseconds(n, seconds));
+        say!("{name:<38} {n:>8} {:>10.1} {:>8.2}", speed(n, seconds), nanoseconds(n, seconds));
     }
 }
 
 fn check_row(name: &str, text: &str) {
     let bytes = text.as_bytes();
-    let [rust, ours] = best([
-        &mut |runs| timed(runs, || std::str::from_utf8(black_box(bytes)).is_ok()),
-        &mut |runs| timed(runs, || host::first_bad(black_box(bytes))),
-    ]);
+    let [rust, ours] = best([&mut |runs| timed(runs, || std::str::from_utf8(black_box(bytes)).is_ok()), &mut |runs| {
+        timed(runs, || host::first_bad(black_box(bytes)))
+    }]);
     let n = bytes.len();
-    println!("{name:<38} {n:>8} {:>15.1} {:>10.1} {:>7.2} {:>8.3}", speed(n, rust), speed(n, ours), rust / ours, nanoseconds(n, ours));
+    say!("{name:<38} {n:>8} {:>15.1} {:>10.1} {:>7.2} {:>8.3}", speed(n, rust), speed(n, ours), rust / ours, nanoseconds(n, ours));
 }
 
 /// The UTF-8 check alone, against the standard library's.
 fn check_alone() {
-    println!("\n{:<38} {:>8} {:>15} {:>10} {:>7} {:>8}", "the UTF-8 check alone", "bytes", "from_utf8 MB/s", "ours MB/s", "ratio", "ns/byte");
+    say!("\n{:<38} {:>8} {:>15} {:>10} {:>7} {:>8}", "the UTF-8 check alone", "bytes", "from_utf8 MB/s", "ours MB/s", "ratio", "ns/byte");
     for (name, size) in REALISTIC {
         check_row(&format!("import script {name}"), &imports::script(SEED, size));
     }
@@ -359,11 +353,11 @@ fn mean(ratios: impl Iterator<Item = f64>) -> f64 {
 
 /// Whether the time a byte stays level from 1 kB to 1 MB.
 fn growth(kind: &Kind, rows: &[Row]) {
-    println!("\nnanoseconds a byte at 1 kB, 32 kB and 1 MB of {} scripts:", kind.name);
+    say!("\nnanoseconds a byte at 1 kB, 32 kB and 1 MB of {} scripts:", kind.name);
     for (buffers, of) in [("largest", (|r| r.largest) as fn(&Row) -> f64), ("exact", |r| r.fitting)] {
         let each: Vec<f64> = rows.iter().map(|r| nanoseconds(r.bytes, of(r))).collect();
         let text: Vec<String> = each.iter().map(|n| format!("{n:.2}")).collect();
-        println!("  {buffers:<8} {} (the last is {:.2} times the first)", text.join("  "), each[each.len() - 1] / each[0]);
+        say!("  {buffers:<8} {} (the last is {:.2} times the first)", text.join("  "), each[each.len() - 1] / each[0]);
     }
 }
 
@@ -376,55 +370,59 @@ fn slower_by(row: &Row) -> Option<String> {
 fn slower(rows: &[Row]) {
     let all = rows.iter().flat_map(|row| row.ratios().map(|(buffers, ratio)| (ratio, format!("{} ({buffers})", row.name))));
     if let Some((ratio, name)) = all.min_by(|a, b| a.0.total_cmp(&b.0)) {
-        println!("worst ratio: {ratio:.2}, {name}");
+        say!("worst ratio: {ratio:.2}, {name}");
     }
     let names: Vec<String> = rows.iter().filter_map(slower_by).collect();
-    println!("slower than the original: {}", if names.is_empty() { "none".to_string() } else { names.join("; ") });
+    say!("slower than the original: {}", if names.is_empty() { "none".to_string() } else { names.join("; ") });
 }
 
-/// The rows behind the realistic ones; none where a folder cannot be read.
-fn others(folder: Option<&str>, buffers: &mut Buffers) -> Option<Vec<Row>> {
-    let mut rows = Vec::new();
-    println!();
-    match folder.map(|folder| (folder, archive(folder, buffers))) {
-        None => println!("archive folder: none was given"),
-        Some((_, Ok(row))) => rows.extend(row),
-        Some((folder, Err(e))) => {
-            println!("cannot read {folder}: {e}");
-            return None;
-        }
-    }
+/// The rows behind the realistic ones.
+fn others(scripts: &[String], buffers: &mut Buffers) -> Vec<Row> {
+    let mut rows: Vec<Row> = archive(scripts, buffers).into_iter().collect();
     rows.extend(worst(buffers));
     measure_alone();
     check_alone();
-    Some(rows)
+    rows
 }
 
 /// How many times as fast as the original, over the sizes of a kind.
 fn ratios(kind: &Kind, rows: &[Row]) {
     let most = mean(rows.iter().map(|r| r.original / r.largest));
     let exact = mean(rows.iter().map(|r| r.original / r.fitting));
-    println!("ratio, {} scripts: {most:.2} largest, {exact:.2} exactly fitting", kind.name);
+    say!("ratio, {} scripts: {most:.2} largest, {exact:.2} exactly fitting", kind.name);
 }
 
-/// `short` times the realistic scripts only.
-pub fn run(short: bool, folder: Option<&str>) -> bool {
-    println!("best of up to {TIMINGS} timings of about {} ms or more, both sides in turn; MB/s are 1,000,000 bytes a second", TIMING * 1e3);
-    println!("original: Lexer::new and tokenize with what they allocate; dropping the answer is left out");
-    println!("ours: aura_tokenize over buffers allocated before; the buffers were not cleared first");
-    println!("largest: buffers of 33 (n + 1), 2n + 2 and 29n bytes; exact: buffers of the bytes used");
-    println!("import scripts: made from templates; mixed scripts: tokens drawn at random, different scripts one after the other");
+/// What is timed, and how.
+fn preface() {
+    say!("best of up to {TIMINGS} timings of about {} ms or more, both sides in turn; MB/s are 1,000,000 bytes a second", TIMING * 1e3);
+    say!("original: Lexer::new and tokenize with what they allocate; dropping the answer is left out");
+    say!("ours: aura_tokenize over buffers allocated before; the buffers were not cleared first");
+    say!("largest: buffers of 33 (n + 1), 2n + 2 and 29n bytes; exact: buffers of the bytes used");
+    say!("import scripts: made from templates; mixed scripts: tokens drawn at random, different scripts one after the other");
+}
+
+/// `short` times the realistic scripts only. Where places are named, the scripts there are timed, too.
+pub fn run(short: bool, places: &[&Path]) -> Status {
+    let named = match places {
+        [] => Ok(Vec::new()),
+        _ => accepted(places),
+    };
+    let scripts = match named {
+        Ok(scripts) => scripts,
+        Err(why) => {
+            message!("bench: nothing was timed: {why}");
+            return Status::NotDone;
+        }
+    };
+    preface();
     let mut buffers = Buffers::new(check::LIMIT);
     let mut rows: Vec<Row> = KINDS.iter().flat_map(|kind| realistic(kind, &mut buffers)).collect();
     if !short {
-        match others(folder, &mut buffers) {
-            Some(more) => rows.extend(more),
-            None => return false,
-        }
+        rows.extend(others(&scripts, &mut buffers));
     }
     let kinds = || KINDS.iter().zip(rows.chunks(REALISTIC.len()));
     kinds().for_each(|(kind, rows)| growth(kind, rows));
     slower(&rows);
     kinds().for_each(|(kind, rows)| ratios(kind, rows));
-    true
+    Status::Passed
 }

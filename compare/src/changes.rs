@@ -98,7 +98,7 @@ pub fn read(folder: &Path) -> Result<Vec<Change>, String> {
         let path = entry.map_err(unreadable)?.path();
         let name = path.file_stem().map(|stem| stem.to_string_lossy().into_owned()).unwrap_or_default();
         let is_named = name.bytes().all(|b| b.is_ascii_lowercase() || b.is_ascii_digit() || b == b'_');
-        if !is_named || !path.extension().is_some_and(|ending| ending == ENDING) {
+        if !is_named || path.extension().is_none_or(|ending| ending != ENDING) {
             return Err(format!("{}: a change is named by small letters, digits and `_`, and ends with .{ENDING}", path.display()));
         }
         changes.push(parse(&name, &fs::read_to_string(&path).map_err(unreadable)?)?);

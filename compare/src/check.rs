@@ -97,7 +97,7 @@ pub fn lex(script: &[u8]) -> Result<(Lexed, Used), String> {
             continue;
         }
         let refused = run(script, short);
-        if refused.answer != Err(Refusal { number, figure: size as u64 }) || !refused.kept() {
+        if refused.answer != Err(Refusal::from_answer(number, size as u64)) || !refused.kept() {
             return Err(format!("a byte short: expected refusal {number} figure {size}, answered {:?}", refused.answer));
         }
     }
@@ -108,11 +108,7 @@ pub fn lex(script: &[u8]) -> Result<(Lexed, Used), String> {
 /// The three buffers of an accepted script, as far as they are used.
 pub fn buffers(script: &[u8]) -> Result<[Vec<u8>; 3], String> {
     let (exact, _, used) = exact(script)?;
-    Ok([
-        exact.tokens.bytes[..used.tokens].to_vec(),
-        exact.texts.bytes[..used.texts].to_vec(),
-        exact.errors.bytes[..used.errors].to_vec(),
-    ])
+    Ok([exact.tokens.bytes[..used.tokens].to_vec(), exact.texts.bytes[..used.texts].to_vec(), exact.errors.bytes[..used.errors].to_vec()])
 }
 
 /// The proved readers over the records of a run.
@@ -141,7 +137,7 @@ fn read_back(script: &[u8], run: &Run, used: Used, lexed: &Lexed) -> Result<(), 
         }
         at = r[0] as usize;
     }
-    if host::next_error(errors, at) != Err(Refusal { number: 7, figure: at as u64 }) {
+    if host::next_error(errors, at) != Err(Refusal::from_answer(7, at as u64)) {
         return Err("a next error behind the last".to_string());
     }
     Ok(())

@@ -4,26 +4,27 @@ use crate::check;
 use crate::host;
 use crate::imports;
 use crate::mixed;
+use crate::say::{message, say, Status};
 use crate::scripts::Make;
-use std::process::{Command, ExitCode};
+use std::ffi::OsStr;
+use std::process::Command;
 
 const SEED: u64 = 1;
 const SIZE: usize = 200_000;
 
 const KINDS: [(&str, Make); 2] = [("import", imports::script), ("mixed", mixed::script)];
 
-/// Statuses of a run that failed, and of one that counted nothing.
-const FAILED: u8 = 1;
-const NOTHING: u8 = 2;
-
 /// Makes a script of a kind and calls `aura_tokenize` once, with the largest buffers; prints the bytes and the tokens.
-pub fn once(kind: &str) -> Option<bool> {
-    let (_, make) = KINDS.iter().find(|(name, _)| *name == kind)?;
+pub fn once(kind: &OsStr) -> Status {
+    let Some((_, make)) = KINDS.iter().find(|(name, _)| kind == *name) else {
+        message!("count --once: there is no such kind of script; name import or mixed");
+        return Status::NotDone;
+    };
     let script = make(SEED, SIZE);
     let [mut tokens, mut texts, mut errors] = check::largest(script.len()).map(|size| vec![0; size]);
     let used = host::tokenize(script.as_bytes(), &mut tokens, &mut texts, &mut errors).expect("the buffers are large enough");
-    println!("{} {}", script.len(), used.count);
-    Some(true)
+    say!("{} {}", script.len(), used.count);
+    Status::Passed
 }
 
 /// What was counted of a script.
@@ -52,22 +53,24 @@ fn read(printed: &str, told: &str) -> Option<Counts> {
 }
 
 /// Runs `once` below valgrind, which counts within `aura_tokenize` only. An error has a status and says why.
-fn count(kind: &str) -> Result<Counts, (u8, String)> {
-    let program = std::env::current_exe().map_err(|e| (NOTHING, format!("this program's file is not known: {e}")))?;
+fn count(kind: &str) -> Result<Counts, (Status, String)> {
+    let program = std::env::current_exe().map_err(|e| (Status::NotDone, format!("this program's file is not known: {e}")))?;
     let output = Command::new("valgrind")
         .args(["--tool=callgrind", "--branch-sim=yes", "--toggle-collect=aura_tokenize", "--callgrind-out-file=/dev/null"])
         .arg(program)
         .args(["count", "--once", kind])
         .output()
-        .map_err(|e| (NOTHING, format!("valgrind is not installed, or cannot be started: {e}")))?;
+        .map_err(|e| (Status::NotDone, format!("valgrind cannot be started: {e}; install valgrind")))?;
     let [printed, told] = [output.stdout, output.stderr].map(|bytes| String::from_utf8_lossy(&bytes).into_owned());
-    read(&printed, &told).filter(|_| output.status.success()).ok_or_else(|| (FAILED, format!("the {kind} script; valgrind says:\n{told}")))
+    read(&printed, &told)
+        .filter(|_| output.status.success())
+        .ok_or_else(|| (Status::Failed, format!("the {kind} script; valgrind says:\n{told}")))
 }
 
 fn print(kind: &str, counts: &Counts) {
     let Counts { bytes, tokens, instructions, mispredicted } = *counts;
     let each = |count: u64| count as f64 / tokens as f64;
-    println!(
+    say!(
         "{:<16} {bytes:>8} {tokens:>8} {:>13.2} {:>20.1} {:>29.2}",
         format!("{kind} script"),
         each(bytes),
@@ -76,17 +79,17 @@ fn print(kind: &str, counts: &Counts) {
     );
 }
 
-pub fn run() -> ExitCode {
+pub fn run() -> Status {
     match KINDS.iter().map(|(kind, _)| count(kind)).collect::<Result<Vec<Counts>, _>>() {
         Ok(all) => {
-            println!("one call of aura_tokenize with the largest buffers, nothing warmed before, on valgrind's model of a processor");
-            println!("{:<16} {:>8} {:>8} bytes a token instructions a token mispredicted branches a token", "", "bytes", "tokens");
+            say!("one call of aura_tokenize with the largest buffers, nothing warmed before, on valgrind's model of a processor");
+            say!("{:<16} {:>8} {:>8} bytes a token instructions a token mispredicted branches a token", "", "bytes", "tokens");
             KINDS.iter().zip(&all).for_each(|((kind, _), counts)| print(kind, counts));
-            ExitCode::SUCCESS
+            Status::Passed
         }
         Err((status, text)) => {
-            println!("count: nothing was counted: {text}");
-            ExitCode::from(status)
+            message!("count: nothing was counted: {text}");
+            status
         }
     }
 }

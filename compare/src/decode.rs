@@ -2,6 +2,7 @@
 use crate::lexed::{Lexed, Mistake, Span, Token, EOF};
 
 /// The fixed spelling of a kind; none for the kinds that are never made, for EOF and for the kinds that carry their text.
+#[rustfmt::skip]
 pub const SPELLINGS: [&str; 126] = [
     "", "", "", "", "", "", "val", "var", "fun", "struct", "class", "interface", "enum", "actor", "sealed", "return", "if",
     "else", "when", "for", "in", "while", "do", "break", "continue", "try", "catch", "finally", "throw", "is", "as", "public",
@@ -70,37 +71,21 @@ pub fn error(bytes: &[u8], at: usize) -> Option<(Mistake, usize)> {
     Some((Mistake { kind, span: span(bytes, at + 1), code }, at + error_length(kind)))
 }
 
-/// Both lists, and that the texts fill the text buffer's used part without gap or overlap, with the offsets of empty ones at a
+/// The text of a record, and whether it is where document 01 says: a made one in the text buffer, another one at the token's start.
+fn text<'a>(r: &Record, script: &'a [u8], texts: &'a [u8]) -> Result<&'a [u8], String> {
+    let Some((offset, length)) = r.text else {
+        return Ok(SPELLINGS[r.kind as usize].as_bytes());
+    };
+    if !is_made(r.kind) && offset != r.span[0] {
+        return Err(format!("a script text at {offset} of a token at {}", r.span[0]));
+    }
+    let source = if is_made(r.kind) { texts } else { script };
+    source.get(offset as usize..(offset + length) as usize).ok_or_else(|| format!("text {offset} {length} outside its buffer"))
+}
+
+/// Whether made texts, by their offsets and lengths, fill so many bytes without gap or overlap, with the offsets of empty ones at a
 /// text's beginning or at the end.
-pub fn lists(script: &[u8], tokens: &[u8], texts: &[u8], errors: &[u8]) -> Result<Lexed, String> {
-    let script = script.strip_prefix("\u{FEFF}".as_bytes()).unwrap_or(script);
-    let mut lexed = Lexed { tokens: Vec::new(), errors: Vec::new() };
-    let mut places: Vec<(u64, u64)> = Vec::new();
-    let mut at = 0;
-    while at < tokens.len() {
-        let r = record(tokens, at).ok_or(format!("no whole record at {at}"))?;
-        if r.kind == EOF && r.next != tokens.len() {
-            return Err(format!("EOF at {at}, before the end of the records"));
-        }
-        let text = match r.text {
-            None => SPELLINGS[r.kind as usize].as_bytes().to_vec(),
-            Some((offset, length)) => {
-                let source = if is_made(r.kind) { texts } else { script };
-                if is_made(r.kind) {
-                    places.push((offset, length));
-                } else if offset != r.span[0] {
-                    return Err(format!("a script text at {offset} of a token at {}", r.span[0]));
-                }
-                let part = source.get(offset as usize..(offset + length) as usize);
-                part.ok_or(format!("text {offset} {length} outside its buffer"))?.to_vec()
-            }
-        };
-        lexed.tokens.push(Token { kind: r.kind, text, span: r.span });
-        at = r.next;
-    }
-    if lexed.tokens.last().map(|t| t.kind) != Some(EOF) {
-        return Err("the records do not end with EOF".to_string());
-    }
+fn fill(places: &[(u64, u64)], size: u64) -> Result<(), String> {
     let mut filled: Vec<(u64, u64)> = places.iter().copied().filter(|p| p.1 > 0).collect();
     filled.sort_unstable();
     let mut end = 0;
@@ -110,19 +95,54 @@ pub fn lists(script: &[u8], tokens: &[u8], texts: &[u8], errors: &[u8]) -> Resul
         }
         end = offset + length;
     }
-    if end != texts.len() as u64 {
-        return Err(format!("texts end at {end} of {}", texts.len()));
+    if end != size {
+        return Err(format!("texts end at {end} of {size}"));
     }
-    for (offset, length) in places {
-        if length == 0 && offset != end && !filled.iter().any(|p| p.0 == offset) {
-            return Err(format!("an empty text at {offset}"));
+    let begins = |offset: u64| offset == end || filled.binary_search_by_key(&offset, |p| p.0).is_ok();
+    match places.iter().find(|(offset, length)| *length == 0 && !begins(*offset)) {
+        None => Ok(()),
+        Some((offset, _)) => Err(format!("an empty text at {offset}")),
+    }
+}
+
+/// Both lists, and that the made texts fill the text buffer's used part.
+pub fn lists(script: &[u8], tokens: &[u8], texts: &[u8], errors: &[u8]) -> Result<Lexed, String> {
+    let script = script.strip_prefix("\u{FEFF}".as_bytes()).unwrap_or(script);
+    let mut lexed = Lexed { tokens: Vec::new(), errors: Vec::new() };
+    let mut places: Vec<(u64, u64)> = Vec::new();
+    let mut at = 0;
+    while at < tokens.len() {
+        let r = record(tokens, at).ok_or_else(|| format!("no whole record at {at}"))?;
+        if r.kind == EOF && r.next != tokens.len() {
+            return Err(format!("EOF at {at}, before the end of the records"));
         }
+        lexed.tokens.push(Token { kind: r.kind, text: text(&r, script, texts)?.to_vec(), span: r.span });
+        places.extend(r.text.filter(|_| is_made(r.kind)));
+        at = r.next;
     }
+    if lexed.tokens.last().map(|t| t.kind) != Some(EOF) {
+        return Err("the records do not end with EOF".to_string());
+    }
+    fill(&places, texts.len() as u64)?;
     at = 0;
     while at < errors.len() {
-        let (mistake, next) = error(errors, at).ok_or(format!("no whole error at {at}"))?;
+        let (mistake, next) = error(errors, at).ok_or_else(|| format!("no whole error at {at}"))?;
         lexed.errors.push(mistake);
         at = next;
     }
     Ok(lexed)
+}
+
+#[cfg(test)]
+mod tests {
+    use super::fill;
+
+    #[test]
+    fn made_texts_fill_their_buffer() {
+        assert_eq!(fill(&[(3, 2), (0, 3), (3, 0), (5, 0), (0, 0)], 5), Ok(()));
+        assert_eq!(fill(&[], 0), Ok(()));
+        for (places, size) in [(vec![(0, 2), (3, 2)], 5), (vec![(0, 3), (2, 2)], 4), (vec![(0, 3)], 4), (vec![(0, 3), (1, 0)], 3)] {
+            assert!(fill(&places, size).is_err(), "{places:?} {size}");
+        }
+    }
 }

@@ -1,16 +1,17 @@
 //! The changed originals, held against the scripts of the gate's runs.
 use crate::calls::{self, Answer, Call};
 use crate::decode;
+use crate::files;
 use crate::lexed::Lexed;
 use crate::oracle::{self, Lexing};
 use crate::readers;
 use crate::replay;
-use crate::runs;
+use crate::say::{message, say, Status};
 use crate::scripts;
 use crate::shrink::shrink;
 use crate::tables;
 use std::cell::Cell;
-use std::fs;
+use std::ffi::OsStr;
 use std::panic::{self, AssertUnwindSafe};
 use std::path::Path;
 use std::sync::Mutex;
@@ -71,7 +72,7 @@ fn watch() {
         std::thread::sleep(Duration::from_secs(1));
         let busy = *BUSY.lock().expect("no one panics with it");
         if let Some((name, _)) = busy.filter(|(_, since)| since.elapsed() > ENDLESS) {
-            println!("mutants: {name} does not come back from a call: choose another change");
+            say!("mutants: {name} does not come back from a call: choose another change");
             std::process::exit(1);
         }
     });
@@ -196,7 +197,7 @@ impl Held {
         scripts(self);
         let found = self.count() - before;
         let left = MUTANTS.len() - self.count();
-        println!("{name}: {} scripts, {found} more found, {left} left, {} seconds", self.scripts, start.elapsed().as_secs());
+        say!("{name}: {} scripts, {found} more found, {left} left, {} seconds", self.scripts, start.elapsed().as_secs());
     }
 
     /// Prints how each was found, and whether all are that can be.
@@ -206,50 +207,49 @@ impl Held {
         for (mutant, found) in MUTANTS.iter().zip(&self.found) {
             let name = mutant.name;
             match (found, mutant.unshowable) {
-                (Some(Found { run, script }), None) => println!("{name:width$}  {run:10}  {script}"),
+                (Some(Found { run, script }), None) => say!("{name:width$}  {run:10}  {script}"),
                 (None, Some(reason)) => {
                     unshowable += 1;
-                    println!("{name:width$}  {:10}  no script can show it: {reason}", "-");
+                    say!("{name:width$}  {:10}  no script can show it: {reason}", "-");
                 }
                 (None, None) => {
                     wrong += 1;
-                    println!("{name:width$}  NOT FOUND   {}", mutant.words);
+                    say!("{name:width$}  NOT FOUND   {}", mutant.words);
                 }
                 (Some(Found { run, script }), Some(reason)) => {
                     wrong += 1;
-                    println!("{name:width$}  {run:10}  {script}  SHOWN, although its file says: {reason}");
+                    say!("{name:width$}  {run:10}  {script}  SHOWN, although its file says: {reason}");
                 }
             }
         }
-        println!("mutants: {} changed originals, {} found, {unshowable} that no script can show", MUTANTS.len(), self.count());
+        say!("mutants: {} changed originals, {} found, {unshowable} that no script can show", MUTANTS.len(), self.count());
         wrong == 0
     }
 }
 
 /// The scripts of the examples, as far as they are accepted.
 fn archive(held: &mut Held) -> bool {
-    let mut files = Vec::new();
-    runs::files_below(Path::new(concat!(env!("CARGO_MANIFEST_DIR"), "/../examples/data")), &mut files).expect("the examples are there");
-    files.iter().all(|file| held.script(&fs::read(file).expect("an example is readable")))
+    let data = Path::new(concat!(env!("CARGO_MANIFEST_DIR"), "/../examples/data"));
+    files::scripts(&[data]).expect("the examples are there").iter().all(|script| held.script(&script.bytes))
 }
 
 /// The runs of these names, in the gate's order; none where a name is unknown.
-fn named(names: &str) -> Option<Vec<(&'static str, Scripts)>> {
-    let names: Vec<&str> = names.split(',').collect();
+fn named(names: &OsStr) -> Option<Vec<(&'static str, Scripts)>> {
+    let names: Vec<&str> = names.to_str()?.split(',').collect();
     let known = names.iter().all(|name| RUNS.iter().any(|run| run.0 == *name));
     known.then(|| RUNS.iter().copied().filter(|run| names.contains(&run.0)).collect())
 }
 
-pub fn run(words: &[&str]) -> Option<bool> {
-    let runs = match words {
-        [] => RUNS.to_vec(),
-        ["--runs", names] => named(names)?,
-        _ => return None,
+pub fn run(names: Option<&OsStr>) -> Status {
+    let Some(runs) = names.map_or(Some(RUNS.to_vec()), named) else {
+        let known: Vec<&str> = RUNS.iter().map(|run| run.0).collect();
+        message!("mutants: a run is not known; the runs are {}", known.join(", "));
+        return Status::NotDone;
     };
     watch();
     let mut held = Held::new();
     for (name, scripts) in runs {
         held.hold(name, scripts);
     }
-    Some(held.report())
+    held.report().into()
 }

@@ -21,7 +21,7 @@ fn answered<const SLOTS: usize, const VALUES: usize>(number: u64, answer: [u64; 
         return Ok(values.try_into().expect("the other slots"));
     }
     assert_eq!(values, [KEPT; VALUES], "a refusal sets the figure's slot only");
-    Err(Refusal { number, figure })
+    Err(Refusal::from_answer(number, figure))
 }
 
 /// The number of the refusal and the first byte of the first bad sequence, or none where the text is UTF-8.

@@ -115,13 +115,7 @@ fn choice(n: &mut Numbers) -> String {
 }
 
 fn inscription(n: &mut Numbers) -> String {
-    format!(
-        "val inscription{} = \"\"\"\n    Here lies {}\n    born {}\n    died {}\n\"\"\"\n\n",
-        n.below(900),
-        name(n),
-        date(n),
-        date(n)
-    )
+    format!("val inscription{} = \"\"\"\n    Here lies {}\n    born {}\n    died {}\n\"\"\"\n\n", n.below(900), name(n), date(n), date(n))
 }
 
 fn moved(n: &mut Numbers) -> String {

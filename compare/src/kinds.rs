@@ -1,6 +1,7 @@
 //! The token kinds of the crate `aura_lexer` against the original's.
 use crate::decode::SPELLINGS;
 use crate::oracle;
+use crate::say::say;
 use aura_lexer::TokenKind;
 
 /// The names of the original's `TokenKind`, in its order, from its source.
@@ -44,12 +45,12 @@ pub fn run() -> bool {
     let names = names();
     let result = names.iter().enumerate().try_for_each(|(number, name)| check(number, name));
     if names.len() != TokenKind::all().len() {
-        println!("DIFFERENT: the original has {} kinds, the crate {}", names.len(), TokenKind::all().len());
+        say!("DIFFERENT: the original has {} kinds, the crate {}", names.len(), TokenKind::all().len());
         return false;
     }
     match result {
-        Ok(()) => println!("kinds: {} names and spellings, all equal", names.len()),
-        Err(ref text) => println!("DIFFERENT: {text}"),
+        Ok(()) => say!("kinds: {} names and spellings, all equal", names.len()),
+        Err(ref text) => say!("DIFFERENT: {text}"),
     }
     result.is_ok()
 }

@@ -65,14 +65,7 @@ fn shift_column(line: u64, column: u64) -> u64 {
 /// Document 01's shift, for a first text of `n` bytes after its mark whose EOF is on `line`.
 fn shift(span: Span, n: u64, line: u64) -> Span {
     let [start, end, start_line, start_col, end_line, end_col] = span;
-    [
-        start + n + 1,
-        end + n + 1,
-        start_line + line,
-        shift_column(start_line, start_col),
-        end_line + line,
-        shift_column(end_line, end_col),
-    ]
+    [start + n + 1, end + n + 1, start_line + line, shift_column(start_line, start_col), end_line + line, shift_column(end_line, end_col)]
 }
 
 impl Lexed {

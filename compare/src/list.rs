@@ -1,5 +1,6 @@
 //! Small scripts that the runs always take in: document 01's table, its near misses, and each form at a boundary.
 
+#[rustfmt::skip]
 pub const SMALL: [&str; 78] = [
     "", "\"\"", "\"$a$b\"", "\"$a", "1e", "1f", "0x", ":=", "'''", "''", "\"\\uD800\"", "$ab", "/***/", "a\nb", "val a=1", "$$a", "\"$$a\"",
     "'\\q'", "\"\\q\"", "\"a\nb\"", "/**/", "/**", "/** a", "/* a", "/*/", "/**/*/", "/// a \n///", "///", "/** a\n * b\n\n * **c * \n*/", "<<<", "<<",

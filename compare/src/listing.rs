@@ -5,6 +5,10 @@ use crate::lexed::{Lexed, Span};
 use crate::oracle;
 use crate::replay::hex;
 use crate::runs::refusal;
+use crate::say::{self, message, Status};
+use aura_tools::files::Script;
+use aura_tools::visible;
+use std::path::Path;
 
 fn fields(span: Span) -> String {
     span.map(|n| n.to_string()).join(" ")
@@ -32,21 +36,27 @@ pub fn is_closed(script: &str, lexed: &Lexed) -> Option<bool> {
     Some(oracle::joins(script.as_bytes(), true, lexed).is_ok())
 }
 
-fn listing(script: &[u8]) -> Result<String, String> {
-    if let Some(r) = refusal(script) {
-        return Ok(format!("refused {} {}\n", r.number, r.figure));
+/// The figure of a script that is too long is its length, of which less may have been read.
+fn listing(script: &Script) -> Result<String, String> {
+    if let Some(r) = refusal(&script.bytes) {
+        let figure = script.length.filter(|length| *length > LIMIT as u64).unwrap_or(r.figure);
+        return Ok(format!("refused {} {figure}\n", r.number()));
     }
-    let source = std::str::from_utf8(script).expect("it was checked");
+    let source = std::str::from_utf8(&script.bytes).expect("it was checked");
     let lexed = oracle::lex(source);
     let closed = is_closed(source, &lexed).ok_or("too near the limit to ask for demand 3")?;
     Ok(lines(&lexed) + if closed { "closed\n" } else { "open\n" })
 }
 
-pub fn run(file: &str) -> bool {
-    let answer = std::fs::read(file).map_err(|e| e.to_string()).and_then(|script| listing(&script));
-    match answer {
-        Ok(ref text) => print!("{text}"),
-        Err(ref text) => eprintln!("no listing of {file}: {text}"),
+pub fn run(file: &Path) -> Status {
+    match Script::open(file).map_err(|e| e.to_string()).and_then(|script| listing(&script)) {
+        Ok(text) => {
+            say::on_output(format_args!("{text}"));
+            Status::Passed
+        }
+        Err(why) => {
+            message!("no listing of {}: {why}", visible::name(file));
+            Status::NotDone
+        }
     }
-    answer.is_ok()
 }

@@ -1,6 +1,7 @@
 //! Mixed scripts: tokens drawn at random, so that no token tells the next one. Seeded, closed at their end, and without mistakes.
 use crate::scripts::{self, Numbers};
 
+#[rustfmt::skip]
 const KEYWORDS: [&str; 71] = [
     "val", "var", "fun", "struct", "class", "interface", "enum", "actor", "sealed", "return", "if", "else", "when", "for", "in", "while",
     "do", "break", "continue", "try", "catch", "finally", "throw", "is", "as", "public", "private", "protected", "internal", "null", "this",
@@ -10,9 +11,8 @@ const KEYWORDS: [&str; 71] = [
 ];
 const ONE: [&str; 25] =
     ["+", "-", "*", "/", "%", "=", "<", ">", "!", "&", "|", "^", "@", "#", "(", ")", "{", "}", "[", "]", ",", ";", ":", ".", "?"];
-const TWO: [&str; 22] = [
-    "++", "--", "+=", "-=", "*=", "/=", "%=", "==", "!=", "<=", ">=", "&&", "||", "<<", ">>", "!!", "->", "=>", "::", ":=", "..", "??",
-];
+const TWO: [&str; 22] =
+    ["++", "--", "+=", "-=", "*=", "/=", "%=", "==", "!=", "<=", ">=", "&&", "||", "<<", ">>", "!!", "->", "=>", "::", ":=", "..", "??"];
 const THREE: [&str; 2] = [">>>", "..."];
 const ESCAPES: [&str; 11] = ["\\n", "\\t", "\\r", "\\\\", "\\'", "\\\"", "\\0", "\\b", "\\f", "\\v", "\\/"];
 const BEYOND: [&str; 12] = ["é", "ö", "ü", "ø", "ł", "ż", "–", "€", "“", "中", "🪦", "🌳"];

@@ -3,6 +3,7 @@ use crate::calls::{self, Call};
 use crate::check;
 use crate::lexer::Lexer;
 use crate::oracle::{self, Lexing};
+use crate::say::{message, say, Status};
 use crate::scripts::{self, Numbers};
 
 const STEPS: usize = 40;
@@ -29,16 +30,20 @@ fn compare(text: &str, calls: &[Call]) -> Result<(), String> {
     }
 }
 
-pub fn run(seed: u64, count: u64) -> bool {
+pub fn run(seed: u64, count: u64) -> Status {
+    if count == 0 {
+        message!("readers: nothing was compared: no script was asked for; ask for one at least");
+        return Status::NotDone;
+    }
     let all = drawn(seed, count, &mut |text, calls| {
         let compared = compare(text, calls);
         if let Err(what) = &compared {
-            println!("DIFFERENT: {text:?}: {what}");
+            say!("DIFFERENT: {text:?}: {what}");
         }
         compared.is_ok()
     });
     if all {
-        println!("readers: {count} scripts, {} steps of next, consume and match, all equal", count * STEPS as u64);
+        say!("readers: {count} scripts, {} steps of next, consume and match, all equal", count * STEPS as u64);
     }
-    all
+    all.into()
 }

@@ -3,25 +3,22 @@ use crate::check;
 use crate::decode;
 use crate::host::{self, Refusal};
 use crate::list;
+use crate::say::say;
 use crate::scripts::Numbers;
 
 /// What the text check has to answer for the record at a place.
 fn expected_check(script: &[u8], texts: &[u8], tokens: &[u8], at: usize) -> Result<(), Refusal> {
     let Some(r) = decode::record(tokens, at) else {
-        return Err(Refusal { number: 7, figure: at as u64 });
+        return Err(Refusal::from_answer(7, at as u64));
     };
     let Some((offset, length)) = r.text else {
         return Ok(());
     };
-    let size = if decode::is_made(r.kind) {
-        texts.len()
-    } else {
-        script.strip_prefix("\u{FEFF}".as_bytes()).unwrap_or(script).len()
-    };
+    let size = if decode::is_made(r.kind) { texts.len() } else { script.strip_prefix("\u{FEFF}".as_bytes()).unwrap_or(script).len() };
     if offset + length <= size as u64 {
         Ok(())
     } else {
-        Err(Refusal { number: 8, figure: offset })
+        Err(Refusal::from_answer(8, offset))
     }
 }
 
@@ -32,7 +29,7 @@ fn places(size: usize) -> impl Iterator<Item = usize> {
 
 /// Consume and match of a kind at a place, by what next has to answer there.
 fn same_kind(tokens: &[u8], at: usize, kind: u8, next: Result<[u64; 10], Refusal>) -> Result<(), String> {
-    let next = if kind > 125 { Err(Refusal { number: 6, figure: u64::from(kind) }) } else { next };
+    let next = if kind > 125 { Err(Refusal::from_answer(6, u64::from(kind))) } else { next };
     let consumed = next.map(|r| {
         let mut values = [0; 11];
         values[..10].copy_from_slice(&r);
@@ -52,7 +49,7 @@ fn same_tokens(script: &[u8], texts: &[u8], tokens: &[u8]) -> Result<u64, String
     for at in places(tokens.len()) {
         let ours = host::next_token(tokens, at);
         let theirs = match decode::record(tokens, at) {
-            None => Err(Refusal { number: 7, figure: at as u64 }),
+            None => Err(Refusal::from_answer(7, at as u64)),
             Some(r) => {
                 let next = if r.kind == crate::lexed::EOF { at } else { r.next };
                 let (offset, length) = r.text.unwrap_or((0, 0));
@@ -82,7 +79,7 @@ fn same_errors(errors: &[u8]) -> Result<u64, String> {
     for at in places(errors.len()) {
         let ours = host::next_error(errors, at);
         let theirs = match decode::error(errors, at) {
-            None => Err(Refusal { number: 7, figure: at as u64 }),
+            None => Err(Refusal::from_answer(7, at as u64)),
             Some((m, next)) => {
                 let [a, b, c, d, e, f] = m.span;
                 Ok([next as u64, u64::from(m.kind), a, b, c, d, e, f, u64::from(m.code.unwrap_or(0))])
@@ -137,11 +134,11 @@ fn compare() -> Result<u64, String> {
 pub fn run() -> bool {
     match compare() {
         Ok(done) => {
-            println!("records: {done} answers of the readers compared, all equal");
+            say!("records: {done} answers of the readers compared, all equal");
             true
         }
         Err(text) => {
-            println!("DIFFERENT: {text}");
+            say!("DIFFERENT: {text}");
             false
         }
     }

@@ -3,6 +3,7 @@
 //! asked of the original with the seconds of `check`).
 use crate::check;
 use crate::lexed::{Lexed, Mistake, Token};
+use crate::say::say;
 
 const ANSWERS: &str = include_str!("../data/answers.txt");
 
@@ -68,19 +69,20 @@ pub fn run() -> bool {
             Ok((lexed, _)) => lexed.difference(&s.lexed),
         };
         if let Some(text) = problem {
-            println!("DIFFERENT: {:?} ({}): {text}", String::from_utf8_lossy(&s.script), hex(&s.script));
+            say!("DIFFERENT: {:?} ({}): {text}", String::from_utf8_lossy(&s.script), hex(&s.script));
             return false;
         }
     }
-    println!("replay: {} stored answers of the original, all equal", list.len());
+    say!("replay: {} stored answers of the original, all equal", list.len());
     list.len() >= 2000
 }
 
 /// Makes the list from the original: the small scripts, all scripts of up to two symbols, and random ones until every kind that
 /// the original makes, every error and 2,400 scripts are there.
 #[cfg(oracle)]
-pub fn store(file: &str) -> bool {
+pub fn store(file: &std::path::Path) -> crate::say::Status {
     use crate::oracle;
+    use crate::say::{message, Status};
     use crate::scripts::{self, Numbers};
     use std::fmt::Write;
 
@@ -108,6 +110,12 @@ pub fn store(file: &str) -> bool {
         text += if closed { "closed\n" } else { "open\n" };
     }
     let missing: Vec<usize> = (0..126).filter(|&k| !kinds[k]).collect();
-    println!("kinds that no script makes: {missing:?}; errors: {:?}", (1..11).filter(|&k| !faults[k]).collect::<Vec<_>>());
-    std::fs::write(file, text).is_ok()
+    say!("kinds that no script makes: {missing:?}; errors: {:?}", (1..11).filter(|&k| !faults[k]).collect::<Vec<_>>());
+    match std::fs::write(file, text) {
+        Ok(()) => Status::Passed,
+        Err(error) => {
+            message!("store: cannot write {}: {error}", aura_tools::visible::name(file));
+            Status::NotDone
+        }
+    }
 }

@@ -1,12 +1,13 @@
 //! The runs against the original lexer.
 use crate::check::{self, LIMIT};
+use crate::files;
 use crate::host::{self, Refusal};
 use crate::lexed::Lexed;
 use crate::oracle;
+use crate::say::{message, say, Status};
 use crate::scripts;
 use crate::shrink::shrink;
 use crate::tables;
-use std::fs;
 use std::path::Path;
 use std::sync::OnceLock;
 use std::time::Duration;
@@ -20,9 +21,9 @@ fn hex(bytes: &[u8]) -> String {
 /// The refusal that questions 1 and 2 ask for, by Rust's own check.
 pub fn refusal(script: &[u8]) -> Option<Refusal> {
     if script.len() > LIMIT {
-        return Some(Refusal { number: 1, figure: script.len() as u64 });
+        return Some(Refusal::from_answer(1, script.len() as u64));
     }
-    std::str::from_utf8(script).err().map(|e| Refusal { number: 2, figure: e.valid_up_to() as u64 })
+    std::str::from_utf8(script).err().map(|e| Refusal::from_answer(2, e.valid_up_to() as u64))
 }
 
 fn ours(script: &[u8]) -> Result<Lexed, String> {
@@ -47,27 +48,49 @@ fn compare_refused(script: &[u8], expected: Refusal) -> Result<(), String> {
     Ok(())
 }
 
-/// Compares one script in everything. Answers whether it was accepted and closed.
-fn compare(script: &[u8]) -> Result<Option<bool>, String> {
+/// What both lexers say of a script.
+#[derive(Clone, Copy, Debug, PartialEq, Eq)]
+pub enum Compared {
+    Accepted { closed: bool, tokens: usize, errors: usize },
+    Refused(Refusal),
+}
+
+impl Compared {
+    fn accepted(closed: bool, lexed: &Lexed) -> Self {
+        Compared::Accepted { closed, tokens: lexed.tokens.len(), errors: lexed.errors.len() }
+    }
+}
+
+/// Compares the lexers on one script; an error says how they differ.
+pub type Compare = fn(&[u8]) -> Result<Compared, String>;
+
+/// Compares one script in everything.
+pub fn compare(script: &[u8]) -> Result<Compared, String> {
     if let Some(expected) = refusal(script) {
-        return compare_refused(script, expected).map(|()| None);
+        return compare_refused(script, expected).map(|()| Compared::Refused(expected));
     }
     let (lexed, used) = check::lex(script)?;
     if let Some(difference) = lexed.difference(&oracle::lex_bytes(script)?) {
         return Err(difference);
     }
     joins(script, used.closed, &lexed)?;
-    Ok(Some(used.closed))
+    Ok(Compared::accepted(used.closed, &lexed))
 }
 
-/// Compares the lists of one script that is accepted, and no more. Answers whether it was closed.
-fn compare_lists(script: &[u8]) -> Result<Option<bool>, String> {
+/// Compares the lists of one script, or its refusal, and no more.
+pub fn compare_once(script: &[u8]) -> Result<Compared, String> {
+    if let Some(expected) = refusal(script) {
+        return compare_refused(script, expected).map(|()| Compared::Refused(expected));
+    }
     let (lexed, used) = check::lex_exactly(script)?;
-    lexed.difference(&oracle::lex_bytes(script)?).map_or(Ok(Some(used.closed)), Err)
+    match lexed.difference(&oracle::lex_bytes(script)?) {
+        None => Ok(Compared::accepted(used.closed, &lexed)),
+        Some(difference) => Err(difference),
+    }
 }
 
 /// The smallest input that is found by leaving out parts of this one, and how it differs, which may be in another way.
-fn smallest(script: &[u8]) -> String {
+pub fn smallest(script: &[u8], compare: Compare) -> String {
     let least = shrink(script, SHRINKING, |less| compare(less).is_err());
     let text = compare(&least).expect_err("it still differs");
     format!("{:?} ({}): {text}", String::from_utf8_lossy(&least), hex(&least))
@@ -89,82 +112,98 @@ impl Tally {
     }
 
     /// Takes in what comparing the script gave.
-    fn take(&mut self, script: &[u8], answer: Result<Option<bool>, String>) -> bool {
+    fn take(&mut self, script: &[u8], answer: Result<Compared, String>) -> bool {
         match answer {
-            Ok(answer) => {
-                self.scripts += 1;
-                self.bytes += script.len() as u64;
-                self.refused += u64::from(answer.is_none());
-                self.open += u64::from(answer == Some(false));
-                if self.scripts % 1_000_000 == 0 {
-                    eprintln!("{} scripts compared", self.scripts);
-                }
-                true
-            }
+            Ok(Compared::Refused(_)) => self.refused += 1,
+            Ok(Compared::Accepted { closed, .. }) => self.open += u64::from(!closed),
             Err(_) => {
-                println!("DIFFERENT: {}", smallest(script));
-                false
+                say!("DIFFERENT: {}", smallest(script, compare));
+                return false;
             }
         }
+        self.scripts += 1;
+        self.bytes += script.len() as u64;
+        if self.scripts % 1_000_000 == 0 {
+            message!("{} scripts compared", self.scripts);
+        }
+        true
     }
 
-    fn report(&self, name: &str) -> bool {
-        println!("{name}: {} scripts, {} bytes, {} refused, {} open, all equal", self.scripts, self.bytes, self.refused, self.open);
-        true
+    /// The end of a run in which nothing differs.
+    fn report(&self, name: &str) -> Status {
+        if self.scripts == 0 {
+            message!("{name}: nothing was compared: no script was asked for; ask for one at least");
+            return Status::NotDone;
+        }
+        say!("{name}: {} scripts, {} bytes, {} refused, {} open, all equal", self.scripts, self.bytes, self.refused, self.open);
+        Status::Passed
     }
 }
 
 /// Compares every script of a generator and reports.
-fn over(name: &str, scripts: impl FnOnce(&mut dyn FnMut(&[u8]) -> bool) -> bool) -> bool {
+fn over(name: &str, scripts: impl FnOnce(&mut dyn FnMut(&[u8]) -> bool) -> bool) -> Status {
     let mut tally = Tally::default();
-    scripts(&mut |script| tally.add(script)) && tally.report(name)
+    match scripts(&mut |script| tally.add(script)) {
+        true => tally.report(name),
+        false => Status::Failed,
+    }
 }
 
-pub fn table() -> bool {
+pub fn table() -> Status {
     over("table", scripts::table)
 }
 
-pub fn rows() -> bool {
+pub fn rows() -> Status {
     over("rows", tables::rows)
 }
 
 /// Packed scripts are long and many: only one of so many is compared in everything, of the others the lists.
-pub fn points() -> bool {
+pub fn points() -> Status {
     const WHOLE: u64 = 64;
     const LONG: usize = 1_000;
     let mut tally = Tally::default();
     let each = &mut |script: &[u8]| {
         let whole = script.len() < LONG || tally.scripts % WHOLE == 0;
-        tally.take(script, if whole { compare(script) } else { compare_lists(script) })
+        tally.take(script, if whole { compare(script) } else { compare_once(script) })
     };
-    tables::points(each) && tally.report("points")
+    match tables::points(each) {
+        true => tally.report("points"),
+        false => Status::Failed,
+    }
 }
 
-pub fn exhaustive(depth: u32) -> bool {
+pub fn exhaustive(depth: u32) -> Status {
     over("exhaustive", |each| scripts::exhaustive(depth, each))
 }
 
-pub fn random(seed: u64, count: u64) -> bool {
+pub fn random(seed: u64, count: u64) -> Status {
     over("random", |each| scripts::random(seed, count, each))
 }
 
-pub fn mutate(seed: u64, count: u64, files: &[&str]) -> bool {
-    let mut texts: Vec<Vec<u8>> = Vec::new();
-    for file in files {
-        match fs::read(file) {
-            Ok(bytes) => texts.push(bytes),
-            Err(e) => {
-                println!("cannot read {file}: {e}");
-                return false;
-            }
+/// Damaged copies of the scripts at the places, or of a made one where no place is named.
+pub fn mutate(seed: u64, count: u64, places: &[&Path]) -> Status {
+    let texts = match places {
+        [] => Ok(Vec::new()),
+        _ => files::scripts(places),
+    };
+    match texts {
+        Ok(texts) => {
+            let texts: Vec<Vec<u8>> = texts.into_iter().map(|script| script.bytes).collect();
+            over("mutate", |each| scripts::mutate(seed, count, &texts, each))
+        }
+        Err(why) => {
+            message!("mutate: nothing was compared: {why}");
+            Status::NotDone
         }
     }
-    over("mutate", |each| scripts::mutate(seed, count, &texts, each))
 }
 
-pub fn large(seed: u64) -> bool {
+pub fn large(seed: u64) -> Status {
     let mut tally = Tally::default();
-    scripts::large(seed, &mut |script| tally.add(script)) && at_the_limit(&mut tally) && tally.report("large")
+    match scripts::large(seed, &mut |script| tally.add(script)) && at_the_limit(&mut tally) {
+        true => tally.report("large"),
+        false => Status::Failed,
+    }
 }
 
 /// Scripts of the limit and of one byte less, with every ending. Demand 3 says nothing at the limit, since no second script fits, and
@@ -179,94 +218,9 @@ fn at_the_limit(tally: &mut Tally) -> bool {
         }
         let answers = [&short, &less, &most].map(|script| closed(script));
         if answers != [answers[0]; 3] {
-            println!("DIFFERENT: closed of {SHORT}, of the limit less one and of the limit's bytes, ending with {ending:?}: {answers:?}");
+            say!("DIFFERENT: closed of {SHORT}, of the limit less one and of the limit's bytes, ending with {ending:?}: {answers:?}");
             return false;
         }
     }
     true
-}
-
-pub fn files_below(folder: &Path, found: &mut Vec<std::path::PathBuf>) -> std::io::Result<()> {
-    let mut entries: Vec<_> = fs::read_dir(folder)?.collect::<Result<_, _>>()?;
-    entries.sort_by_key(|e| e.path());
-    for entry in entries {
-        if entry.file_type()?.is_dir() {
-            files_below(&entry.path(), found)?;
-        } else {
-            found.push(entry.path());
-        }
-    }
-    Ok(())
-}
-
-/// What was found in an archive, for the summary.
-#[derive(Default)]
-struct Archive {
-    equal: u64,
-    different: u64,
-    refused: u64,
-    unreadable: u64,
-    open: u64,
-    bytes: usize,
-    tokens: usize,
-    errors: usize,
-}
-
-impl Archive {
-    fn add(&mut self, name: &str, script: &[u8]) {
-        match compare(script) {
-            Err(text) => {
-                println!("different {name}: {text}");
-                if self.different == 0 {
-                    println!("  what is left of it, as little as was found to differ: {}", smallest(script));
-                }
-                self.different += 1;
-            }
-            Ok(None) => {
-                println!("refused {name}: {}", host::measure(script).expect_err("it was refused"));
-                self.refused += 1;
-            }
-            Ok(Some(closed)) => {
-                println!("equal {name}{}", if closed { "" } else { " (open at its end)" });
-                let lexed = ours(script).expect("it was compared");
-                self.equal += 1;
-                self.open += u64::from(!closed);
-                self.bytes += script.len();
-                self.tokens += lexed.tokens.len();
-                self.errors += lexed.errors.len();
-            }
-        }
-    }
-
-    fn report(&self) -> bool {
-        let Archive { equal, different, refused, unreadable, open, bytes, tokens, errors } = self;
-        let files = equal + different + refused + unreadable;
-        println!("{files} files: {equal} equal, {different} different, {refused} refused, {unreadable} unreadable");
-        println!("in the equal ones: {bytes} bytes, {tokens} tokens, {errors} errors; {open} are open at their end");
-        *different == 0 && *unreadable == 0
-    }
-}
-
-/// Both lexers over every file below a folder.
-pub fn archive(folder: &str) -> bool {
-    let mut files = Vec::new();
-    if let Err(e) = files_below(Path::new(folder), &mut files) {
-        println!("cannot read {folder}: {e}");
-        return false;
-    }
-    let mut found = Archive::default();
-    for (i, file) in files.iter().enumerate() {
-        let name = file.display().to_string();
-        match fs::read(file) {
-            Ok(script) => found.add(&name, &script),
-            Err(e) => {
-                println!("unreadable {name}: {e}");
-                found.unreadable += 1;
-            }
-        }
-        if (i + 1) % 1_000 == 0 {
-            eprintln!("{} of {} files compared", i + 1, files.len());
-        }
-    }
-    found.report()
 }

@@ -31,9 +31,8 @@ impl Numbers {
 }
 
 /// The symbols of the exhaustive runs.
-pub const SYMBOLS: [&str; 22] = [
-    "\"", "'", "\\", "$", "{", "}", "/", "*", "\n", "u", "0", "a", "x", ".", "é", "\u{FEFF}", "\u{2028}", "<", "=", " ", "D", "_",
-];
+pub const SYMBOLS: [&str; 22] =
+    ["\"", "'", "\\", "$", "{", "}", "/", "*", "\n", "u", "0", "a", "x", ".", "é", "\u{FEFF}", "\u{2028}", "<", "=", " ", "D", "_"];
 
 /// All scripts of exactly `depth` symbols.
 pub fn all(depth: u32) -> impl Iterator<Item = String> {
@@ -48,6 +47,7 @@ pub fn all(depth: u32) -> impl Iterator<Item = String> {
 }
 
 /// What random scripts are made of: pieces in which the rules meet, and then the tables in which no row may be missing.
+#[rustfmt::skip]
 const PARTS: [&str; 76] = [
     "\"", "\"", "\"\"\"", "'", "\\", "\\u", "\\uD800", "\\u0041", "\\u00e", "\\n", "\\q", "\\\"", "\\\\", "$", "$$", "$a", "${", "}", "{",
     "$_x", "${a\nb}", "/", "//", "///", "/*", "*/", "/**", "/**/", "/***/", "*", " * ", "\n", "\n", "\r\n", " ", "\t", "\u{85}", "\u{A0}",
@@ -168,6 +168,7 @@ pub fn large(seed: u64, each: &mut dyn FnMut(&[u8]) -> bool) -> bool {
 }
 
 /// Endings for scripts up to the limit: every way to be open first, then closed ones.
+#[rustfmt::skip]
 pub const ENDINGS: [&str; 46] = [
     "/*", "/* a", "/* *", "/**", "/** a", "/** *", "\"\"\"", "\"\"\"a", "\"\"\"a\"\"", "\"", "\"a", "\"\\", "\"\\u00", "\"$", "\"$a",
     "\"${", "\"${a", "${", "${a", "'", "'\\", "", "a", "1", "1e", "0x", "<", "..", "/", "$", "\\", "é", "\n", "\"\"", "\"a\"",

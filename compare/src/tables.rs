@@ -43,6 +43,7 @@ fn strings(parts: &[&str]) -> Vec<String> {
 }
 
 /// Characters beyond ASCII: the first and last of each length, white space, and digits and letters that are not of ASCII.
+#[rustfmt::skip]
 const BEYOND: [&str; 18] = [
     "\u{80}", "\u{85}", "é", "\u{661}", "\u{7FF}", "\u{800}", "\u{2028}", "€", "\u{212A}", "\u{D7FF}", "\u{E000}", "\u{FEFF}", "\u{FF11}",
     "\u{FF21}", "\u{FFFF}", "\u{10000}", "🪦", "\u{10FFFF}",
@@ -55,9 +56,10 @@ fn characters() -> Vec<String> {
 
 /// Names with a row in the keyword table that are no keywords, names that are keywords under two spellings, and ones that once were.
 const NAMES: [&str; 23] = [
-    "Int", "Long", "Short", "Byte", "Float", "Double", "Boolean", "Char", "String", "Any", "Nothing", "unit", "Unit", "true", "false", "it",
-    "by", "malloc", "free", "retain", "release", "spawn", "send",
+    "Int", "Long", "Short", "Byte", "Float", "Double", "Boolean", "Char", "String", "Any", "Nothing", "unit", "Unit", "true", "false",
+    "it", "by", "malloc", "free", "retain", "release", "spawn", "send",
 ];
+#[rustfmt::skip]
 const WORD_PLACES: [&str; 30] = [
     "□", "_□", "□_", "□$", "$□", "$$□", "□1", "1□", "1□1", "0x□", "0b1□", "1.5□", "1e□", "a□", "□a", "é□", "□é", "\"$□\"", "\"$□ \"",
     "\"$□", "\"$□$□\"", "\"${□}\"", "\"□\"", "${□}", "□.□", "□/**/□", "□\n□", "'□'", "// □\n□", "/// □\n□",
@@ -103,6 +105,7 @@ fn marks(each: &mut dyn FnMut(&[u8]) -> bool) -> bool {
         && sequences(&[&LONG, &LONG, &LONG, &BEHIND], each)
 }
 
+#[rustfmt::skip]
 const ESCAPE_PLACES: [&str; 16] = [
     "\"\\□\"", "\"a\\□b\"", "\"\\□", "\"\\□\nb\"", "\"$x\\□\"", "\"$x\\□$y\"", "\"${x}\\□\"", "\"${\\□}\"", "'\\□'", "'\\□", "'\\□a'",
     "'\\□\n'", "\"\"\"\\□\"\"\"", "\\□", "a\\□b", "\"\\\\□\"",
@@ -137,9 +140,8 @@ fn numbers(each: &mut dyn FnMut(&[u8]) -> bool) -> bool {
 const CODES: [u32; 20] = [
     0, 1, 0x22, 0x24, 0x27, 0x5C, 0x7F, 0x80, 0x7FF, 0x800, 0xD7FF, 0xD800, 0xD801, 0xDBFF, 0xDC00, 0xDFFF, 0xE000, 0xFEFF, 0xFFFE, 0xFFFF,
 ];
-const CODE_PLACES: [&str; 9] = [
-    "\"\\u□\"", "\"a\\u□b\"", "\"$x\\u□\"", "\"${x}\\u□$y\"", "\"\\u□", "'\\u□'", "'\\u□", "'\\u□a'", "\"\"\"\\u□\"\"\"",
-];
+const CODE_PLACES: [&str; 9] =
+    ["\"\\u□\"", "\"a\\u□b\"", "\"$x\\u□\"", "\"${x}\\u□$y\"", "\"\\u□", "'\\u□'", "'\\u□", "'\\u□a'", "\"\"\"\\u□\"\"\""];
 
 /// Four digits with each of them changed to each character.
 fn changed_digits(digits: &str) -> Vec<String> {
@@ -165,6 +167,7 @@ fn codes(each: &mut dyn FnMut(&[u8]) -> bool) -> bool {
 
 /// Characters that look like white space or once were.
 const NO_WHITE: [&str; 6] = ["\0", "\u{7F}", "\u{180E}", "\u{2060}", "\u{2800}", "\u{FEFF}"];
+#[rustfmt::skip]
 const WHITE_PLACES: [&str; 56] = [
     "□", "□a", "a□", "a□b", "a□□b", "□\na", "a□\n□b", "a\n□b", "\r□\n□a", "é□a", "a/**/□b", "1□2", "1□.5", "1.□5", "1e□5", "1e+□5", "0□x1",
     "0x□F", "0b□1", "+□+", "/□/ a", "/□* a */", "//□\nb", "//a□b\nc", "//a□", "///□a□\nb", "///□\nb", "/// a□", "/// a□b\n", "////□a",
@@ -185,6 +188,7 @@ fn white_space(each: &mut dyn FnMut(&[u8]) -> bool) -> bool {
     placed(&WHITE_PLACES, &white, each) && placed(&["a□b", "/// a□\n"], &two, each)
 }
 
+#[rustfmt::skip]
 const COMMENTS: [&str; 40] = [
     "//", "//a", "// a", "//*", "///", "///a", "/// a ", "////", "////a", "/////", "/**/", "/***/", "/****/", "/* */", "/*a*/", "/** */",
     "/** a */", "/**a**/", "/***a***/", "/*/", "/*/*/", "/**//**/", "/* /* */", "/* /* */ */", "/** /* */", "/* // */", "/* /// */",
@@ -210,15 +214,14 @@ fn docs(each: &mut dyn FnMut(&[u8]) -> bool) -> bool {
 }
 
 /// What a string is made of.
-const CONTENTS: [&str; 19] = [
-    "", "a", "é", "🪦", "\\n", "\\q", "\\u0041", "\\u00", "\\uD800", "\\", "$", "$$", "$1", "$a", "$_", "${", "${a}", "${\n}", "'",
-];
+const CONTENTS: [&str; 19] =
+    ["", "a", "é", "🪦", "\\n", "\\q", "\\u0041", "\\u00", "\\uD800", "\\", "$", "$$", "$1", "$a", "$_", "${", "${a}", "${\n}", "'"];
+#[rustfmt::skip]
 const DOLLAR_PLACES: [&str; 20] = [
     "\"$□\"", "\"$□", "\"a$□b\"", "\"$$□\"", "\"$a□b\"", "\"$a$□\"", "\"${a}$□\"", "\"${□}\"", "\"${□", "\"${a□b}c\"", "\"\\$□\"", "$□",
     "$$□", "a$□", "1$□", "${□}", "${□", "${a□b}c", "$□{a}", "${a}□",
 ];
-const INSIDE: [&str; 18] =
-    ["", "a", " ", "\"", "\"\"", "{", "{a", "$", "${", "$a", "\n", "\r\n", "\\", "é", "//", "/*", "'", "\"\"\""];
+const INSIDE: [&str; 18] = ["", "a", " ", "\"", "\"\"", "{", "{a", "$", "${", "$a", "\n", "\r\n", "\\", "é", "//", "/*", "'", "\"\"\""];
 
 fn texts(each: &mut dyn FnMut(&[u8]) -> bool) -> bool {
     sequences(&[&["\""], &CONTENTS, &CONTENTS, &CONTENTS, &["\"", "", "\n", "\r\n", "\nb\""]], each)
@@ -235,13 +238,11 @@ fn texts(each: &mut dyn FnMut(&[u8]) -> bool) -> bool {
 }
 
 const QUOTES: [&str; 7] = ["", "\"", "\"\"", "\"\"\"", "\"\"\"\"", "\"\"\"\"\"", "\"\"\"\"\"\""];
-const RAW: [&str; 19] = [
-    "", "a", " ", "\n", "a\nb", "\r\n", "\n\n", "$a", "${a}", "${", "\\", "\\\"", "\\u0041", "é", "🪦", "'", "// a", "a\"b", "a\"\"b",
-];
+const RAW: [&str; 19] =
+    ["", "a", " ", "\n", "a\nb", "\r\n", "\n\n", "$a", "${a}", "${", "\\", "\\\"", "\\u0041", "é", "🪦", "'", "// a", "a\"b", "a\"\"b"];
 /// What a character literal is made of.
-const LITERALS: [&str; 18] = [
-    "", "a", "é", "€", "🪦", "\\n", "\\q", "\\u0041", "\\u00", "\\uD800", "\\", "\\'", "\"", "\n", "\r", "$", "${", " ",
-];
+const LITERALS: [&str; 18] =
+    ["", "a", "é", "€", "🪦", "\\n", "\\q", "\\u0041", "\\u00", "\\uD800", "\\", "\\'", "\"", "\n", "\r", "$", "${", " "];
 const LITERAL_PLACES: [&str; 9] = ["'□'", "'□", "'□□'", "'a□'", "'a□", "'□\n'", "a'□'b", "''□", "'\\n□"];
 
 fn literals(each: &mut dyn FnMut(&[u8]) -> bool) -> bool {
@@ -251,6 +252,7 @@ fn literals(each: &mut dyn FnMut(&[u8]) -> bool) -> bool {
 }
 
 /// A token or a mistake of each form.
+#[rustfmt::skip]
 const FORMS: [&str; 40] = [
     "a", "_", "$", "$a", "val", "0", "1", "1.5", "1e", "1E5", "0x", "0xF", "0b1", "2L", "\"\"", "\"a\"", "\"$a\"", "\"${a}\"", "\"a",
     "\"\"\"a\"\"\"", "\"\"\"", "'a'", "''", "'", "'a", "'\\", "${a}", "${", ".", "<", ">", "=", ":", "+", "/", "*", "\\", "é", "\u{FEFF}",
@@ -272,6 +274,7 @@ pub fn rows(each: &mut dyn FnMut(&[u8]) -> bool) -> bool {
 }
 
 /// Where every code point is put. No place is left open by a character beyond ASCII and a line feed.
+#[rustfmt::skip]
 const POINT_PLACES: [&str; 26] = [
     "a □ b", "a□b", "□b", "1□2", "1.□5", "1e□5", "0x□F", "0b□1", "+□=", "\"a□b\"", "\"\\□\"", "\"$□\"", "\"$a□\"", "\"${□}\"",
     "\"\\u□041\"", "\"\\u004□\"", "'□'", "'\\□'", "'\\u004□'", "\"\"\"□\"\"\"", "// □", "///□a□", "/*□*/ a", "/**□a□\n□*□b*/", "${□}",

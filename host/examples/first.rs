@@ -8,6 +8,6 @@ fn main() -> Result<(), aura_lexer::Refusal> {
     for error in lexed.errors() {
         println!("E {} {} {}", error.kind.number(), error.span.start, error.span.end);
     }
-    println!("{}", if lexed.used().closed { "closed" } else { "open" });
+    println!("{}", if lexed.is_closed() { "closed" } else { "open" });
     Ok(())
 }

@@ -15,10 +15,10 @@ fn script() -> io::Result<Vec<u8>> {
     }
 }
 
-fn hex(text: &[u8]) -> String {
+fn hex(text: &str) -> String {
     match text {
-        [] => "-".to_string(),
-        _ => text.iter().map(|byte| format!("{byte:02x}")).collect(),
+        "" => "-".to_string(),
+        _ => text.bytes().map(|byte| format!("{byte:02x}")).collect(),
     }
 }
 
@@ -34,7 +34,7 @@ fn print(lexed: &Lexed) -> io::Result<()> {
         let code = error.code.map(|code| format!(" {code}")).unwrap_or_default();
         writeln!(out, "E {} {start} {end} {line} {column} {end_line} {end_column}{code}", error.kind.number())?;
     }
-    writeln!(out, "{}", if lexed.used().closed { "closed" } else { "open" })?;
+    writeln!(out, "{}", if lexed.is_closed() { "closed" } else { "open" })?;
     out.flush()
 }
 
@@ -53,7 +53,7 @@ fn main() -> ExitCode {
             ExitCode::from(2)
         }
         Err(refusal) => {
-            println!("refused {} {}", refusal.number, refusal.figure);
+            println!("refused {} {}", refusal.number(), refusal.figure);
             ExitCode::FAILURE
         }
     }

@@ -1,11 +1,23 @@
 //! The token kinds: names, numbers and spellings.
 
+/// What a kind is: its words, or its spelling.
+macro_rules! document {
+    ($spelling:literal) => {
+        concat!("`", $spelling, "`")
+    };
+    ($spelling:literal $words:literal) => {
+        $words
+    };
+}
+
 macro_rules! kinds {
-    ($($name:ident $spelling:literal,)*) => {
+    ($($name:ident $spelling:literal $($words:literal)?,)*) => {
         /// A token's kind. Its number is its place in `TokenKind` of the original's token.rs, from 0.
         #[derive(Clone, Copy, Debug, PartialEq, Eq, Hash, PartialOrd, Ord)]
         #[repr(u8)]
-        pub enum TokenKind { $($name,)* }
+        pub enum TokenKind {
+            $(#[doc = concat!(document!($spelling $($words)?), ".")] $name,)*
+        }
 
         const KINDS: &[TokenKind] = &[$(TokenKind::$name,)*];
         const NAMES: &[&str] = &[$(stringify!($name),)*];
@@ -14,14 +26,15 @@ macro_rules! kinds {
 }
 
 // The names of TokenKind in the original's token.rs, in its order, with the fixed spelling (document 01, "Records"): it is empty
-// for the kinds that carry a text, for those that are never made, and for EOF. `compare kinds` holds it against the original.
+// for the kinds that carry a text, for those that are never made, and for EOF, which have words for what they are instead.
+// `compare kinds` holds it against the original, the tests against include/aura_kinds.h.
 kinds! {
-    IntLiteral "",
-    FloatLiteral "",
-    StringLiteral "",
-    CharLiteral "",
-    BoolLiteral "",
-    Ident "",
+    IntLiteral "" "a whole number, as it is written",
+    FloatLiteral "" "a number with a point or an exponent, as it is written",
+    StringLiteral "" "a string without interpolations, or a piece of one with them",
+    CharLiteral "" "a character literal",
+    BoolLiteral "" "`true` or `false`",
+    Ident "" "a name",
     Val "val",
     Var "var",
     Fun "fun",
@@ -55,7 +68,7 @@ kinds! {
     This "this",
     Super "super",
     Object "object",
-    Unit "",
+    Unit "" "`unit` or `Unit`",
     Typealias "typealias",
     Override "override",
     Suspend "suspend",
@@ -74,16 +87,16 @@ kinds! {
     Await "await",
     Async "async",
     Select "select",
-    Channel "",
-    Spawn "",
-    Send "",
-    Ask "",
+    Channel "" "never made",
+    Spawn "" "never made",
+    Send "" "never made",
+    Ask "" "never made",
     Box "box",
     Weak "weak",
-    Malloc "",
-    Free "",
-    Retain "",
-    Release "",
+    Malloc "" "never made",
+    Free "" "never made",
+    Retain "" "never made",
+    Release "" "never made",
     Native "native",
     Plus "+",
     Minus "-",
@@ -116,8 +129,8 @@ kinds! {
     DoubleBang "!!",
     Arrow "->",
     DoubleArrow "=>",
-    DoubleDot "",
-    TripleDot "",
+    DoubleDot "" "never made",
+    TripleDot "" "never made",
     At "@",
     Hash "#",
     DoubleColon "::",
@@ -136,12 +149,12 @@ kinds! {
     TripleDotOp "...",
     QuestionMark "?",
     DoubleQMark "??",
-    StringPart "",
-    StringInterpStart "",
-    StringInterpEnd "",
-    DocComment "",
-    EOF "",
-    Error "",
+    StringPart "" "never made",
+    StringInterpStart "" "an interpolation: `$name` or `${..}`",
+    StringInterpEnd "" "never made",
+    DocComment "" "a doc comment",
+    EOF "" "the end of the script",
+    Error "" "a character that begins no token, or marks that are none, as `<<<`",
 }
 
 impl TokenKind {
@@ -150,14 +163,17 @@ impl TokenKind {
         KINDS.get(usize::try_from(number).ok()?).copied()
     }
 
+    /// All kinds, by their numbers.
     pub fn all() -> &'static [Self] {
         KINDS
     }
 
+    /// The number in the records.
     pub fn number(self) -> u8 {
         self as u8
     }
 
+    /// The name in the original's token.rs.
     pub fn name(self) -> &'static str {
         NAMES[self as usize]
     }

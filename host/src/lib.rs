@@ -5,22 +5,35 @@
 //! let lexed = aura_lexer::lex(b"val a=1")?;
 //! let names: Vec<&str> = lexed.tokens().map(|(token, _)| token.kind.name()).collect();
 //! assert_eq!(names, ["Val", "Ident", "Assign", "IntLiteral", "EOF"]);
-//! assert!(lexed.errors().next().is_none() && lexed.used().closed);
+//! assert!(!lexed.has_errors() && lexed.is_closed());
 //! # Ok::<(), aura_lexer::Refusal>(())
 //! ```
+//!
+//! The static library of the proved crates is linked from the folder that the variable `AURA_LIB_DIR` names when the crate is built;
+//! without it from `target/staticlib` of the repository.
+#![deny(missing_docs)]
 
 mod answers;
+mod columns;
+mod errors;
 mod kinds;
 mod lexed;
 pub mod raw;
 mod reader;
+mod refusals;
 
-pub use answers::{ErrorKind, LexError, Refusal, Span, Token, Used};
+pub use answers::{Span, Token, Used};
+pub use columns::columns;
+pub use errors::{ErrorKind, LexError};
 pub use kinds::TokenKind;
 pub use lexed::{lex, Errors, Lexed, Tokens};
 pub use reader::{next_error, text_check, token_text, TokenReader};
+pub use refusals::{Refusal, RefusalKind};
 
-use answers::checked;
+use refusals::checked;
+
+/// The commit of onlynight/AuraLang whose lexer this one is a translation of.
+pub const ORIGINAL: &str = "c401ce55f2";
 
 /// The longest script, in bytes, its byte-order mark counted.
 pub const LIMIT: usize = 1_048_576;
@@ -71,6 +84,7 @@ pub fn after_mark(text: &[u8]) -> &[u8] {
     &text[mark_length(text)..]
 }
 
+/// Whether a code point has Unicode's property White_Space.
 pub fn is_white(code: u32) -> bool {
     raw::is_white(code) != 0
 }

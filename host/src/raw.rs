@@ -7,25 +7,36 @@ pub const FIGURE: usize = 0;
 /// The slots of measuring and tokenising.
 pub const USED_SLOTS: usize = 6;
 
-/// The slots that the answers of the readers have in common: the place of the next record, its kind, the first field of its span.
+/// In the answers of all readers: the place of the next record.
 pub const NEXT_PLACE: usize = 1;
+/// In the answers of the readers of tokens and errors: the record's kind.
 pub const KIND: usize = 2;
+/// The first of the six slots of the record's span.
 pub const START: usize = 3;
 
-/// The slots behind the span: of a token, of consuming, of an error.
+/// Of a token: the offset of its text.
 pub const TEXT_OFFSET: usize = 9;
+/// Of a token: the length of its text.
 pub const TEXT_LENGTH: usize = 10;
+/// The slots of the next token.
 pub const TOKEN_SLOTS: usize = 11;
+
+/// Of consuming: 1 where the token is of the kind asked for, else 0.
 pub const CONSUME_FITS: usize = 11;
+/// The slots of consuming.
 pub const CONSUME_SLOTS: usize = 12;
+
+/// Of an error: the code point that it names.
 pub const CODE_POINT: usize = 9;
+/// The slots of the next error.
 pub const ERROR_SLOTS: usize = 10;
 
-/// Matching has the next place only, and whether the kind fits.
+/// Of matching, which has no span: 1 where the token is of the kind asked for, else 0.
 pub const MATCH_FITS: usize = 2;
+/// The slots of matching.
 pub const MATCH_SLOTS: usize = 3;
 
-/// The text check has the figure only.
+/// The slots of the text check: the figure only.
 pub const CHECK_SLOTS: usize = 1;
 
 mod calls {
@@ -68,10 +79,12 @@ mod calls {
 // In every call below the pointers come from references: they are not null, lead to as many bytes as told, and what is written
 // overlaps nothing.
 
+/// `aura_measure`: what tokenising would answer.
 pub fn measure(script: &[u8], answer: &mut [u64; USED_SLOTS]) -> u64 {
     unsafe { calls::aura_measure(script.as_ptr(), script.len(), answer) }
 }
 
+/// `aura_tokenize`: tokenises a script into three lent buffers.
 pub fn tokenize(script: &[u8], tokens: &mut [u8], texts: &mut [u8], errors: &mut [u8], answer: &mut [u64; USED_SLOTS]) -> u64 {
     unsafe {
         calls::aura_tokenize(
@@ -88,49 +101,49 @@ pub fn tokenize(script: &[u8], tokens: &mut [u8], texts: &mut [u8], errors: &mut
     }
 }
 
+/// `aura_next_token`: the token record at a place.
 pub fn next_token(tokens: &[u8], place: usize, answer: &mut [u64; TOKEN_SLOTS]) -> u64 {
     unsafe { calls::aura_next_token(tokens.as_ptr(), tokens.len(), place, answer) }
 }
 
+/// `aura_consume`: the same, and whether it is of a kind; moves on either way.
 pub fn consume(tokens: &[u8], place: usize, kind: u64, answer: &mut [u64; CONSUME_SLOTS]) -> u64 {
     unsafe { calls::aura_consume(tokens.as_ptr(), tokens.len(), place, kind, answer) }
 }
 
+/// `aura_match_kind`: whether the token at a place is of a kind; moves on only then.
 pub fn match_kind(tokens: &[u8], place: usize, kind: u64, answer: &mut [u64; MATCH_SLOTS]) -> u64 {
     unsafe { calls::aura_match_kind(tokens.as_ptr(), tokens.len(), place, kind, answer) }
 }
 
+/// `aura_next_error`: the error record at a place.
 pub fn next_error(errors: &[u8], place: usize, answer: &mut [u64; ERROR_SLOTS]) -> u64 {
     unsafe { calls::aura_next_error(errors.as_ptr(), errors.len(), place, answer) }
 }
 
+/// `aura_text_check`: whether the text of the token record at a place lies inside its buffer.
 pub fn text_check(script: &[u8], texts: &[u8], tokens: &[u8], place: usize, answer: &mut [u64; CHECK_SLOTS]) -> u64 {
     unsafe {
-        calls::aura_text_check(
-            script.as_ptr(),
-            script.len(),
-            texts.as_ptr(),
-            texts.len(),
-            tokens.as_ptr(),
-            tokens.len(),
-            place,
-            answer,
-        )
+        calls::aura_text_check(script.as_ptr(), script.len(), texts.as_ptr(), texts.len(), tokens.as_ptr(), tokens.len(), place, answer)
     }
 }
 
+/// `aura_first_bad`: whether a text is UTF-8.
 pub fn first_bad(text: &[u8], figure: &mut u64) -> u64 {
     unsafe { calls::aura_first_bad(text.as_ptr(), text.len(), figure) }
 }
 
+/// `aura_mark_length`: the bytes of the byte-order mark that a text begins with.
 pub fn mark_length(text: &[u8]) -> u64 {
     unsafe { calls::aura_mark_length(text.as_ptr(), text.len()) }
 }
 
+/// `aura_is_white`: 1 where the code point is white space, else 0.
 pub fn is_white(code: u32) -> u64 {
     unsafe { calls::aura_is_white(code) }
 }
 
+/// `aura_encode_char`: writes a character as UTF-8; the bytes written, or 0.
 pub fn encode_char(code: u32, buffer: &mut [u8], at: usize) -> u64 {
     unsafe { calls::aura_encode_char(code, buffer.as_mut_ptr(), buffer.len(), at) }
 }

@@ -1,6 +1,8 @@
 //! Reading records back.
-use crate::answers::{checked, LexError, Refusal, Token};
+use crate::answers::Token;
+use crate::errors::LexError;
 use crate::raw::{CONSUME_FITS, FIGURE, MATCH_FITS, NEXT_PLACE};
+use crate::refusals::{checked, Refusal};
 use crate::{after_mark, raw};
 
 /// The token buffer and a place in it. A refused call keeps the place, and at EOF the reader stays.
@@ -16,10 +18,12 @@ impl<'a> TokenReader<'a> {
         Self::at(tokens, 0)
     }
 
+    /// A reader at a place, of which the next call says whether a record starts there.
     pub fn at(tokens: &'a [u8], place: usize) -> Self {
         TokenReader { tokens, place }
     }
 
+    /// The place of the record that comes next.
     pub fn place(&self) -> usize {
         self.place
     }
@@ -67,7 +71,8 @@ pub fn text_check(script: &[u8], texts: &[u8], tokens: &[u8], place: usize) -> R
     checked(number, answer[FIGURE])
 }
 
-/// The text of the token record at a place: a part of the script or of the text buffer, or the fixed spelling of its kind.
+/// The text of the token record at a place: a part of the script or of the text buffer, or the fixed spelling of its kind. It is bytes,
+/// since a record that was damaged may cut a character; the texts of [`Lexed::tokens`](crate::Lexed::tokens) are whole.
 pub fn token_text<'a>(script: &'a [u8], texts: &'a [u8], tokens: &[u8], place: usize) -> Result<&'a [u8], Refusal> {
     text_check(script, texts, tokens, place)?;
     let token = TokenReader::at(tokens, place).next_token()?;

@@ -8,15 +8,15 @@ fn kinds(script: &str) -> Vec<u8> {
 
 fn texts(script: &str) -> Vec<String> {
     let lexed = lex(script.as_bytes()).expect("accepted");
-    lexed.tokens().map(|(_, text)| String::from_utf8(text.to_vec()).expect("texts are UTF-8")).collect()
+    lexed.tokens().map(|(_, text)| text.to_string()).collect()
 }
 
 fn errors(script: &str) -> Vec<LexError> {
     lex(script.as_bytes()).expect("accepted").errors().collect()
 }
 
-const fn refusal(number: u64, figure: u64) -> Refusal {
-    Refusal { number, figure }
+fn refusal(number: u64, figure: u64) -> Refusal {
+    Refusal::from_answer(number, figure)
 }
 
 #[test]
@@ -139,7 +139,7 @@ fn texts_of_damaged_records_are_refused() {
 fn token_ends_cover_the_script() {
     let script = "val été=\"é\" ++ a<<b'x'/// d\n:=$";
     let lexed = lex(script.as_bytes()).expect("accepted");
-    let parts: Vec<&str> = lexed.tokens().map(|(t, _)| &script[t.span.start as usize..t.end() as usize]).collect();
+    let parts: Vec<&str> = lexed.tokens().map(|(t, _)| &script[t.range()]).collect();
     let expected = ["val", "é", "t", "é", "=", "\"é\"", "++", "a", "<<", "b", "'x'", "/// d", ":=", "$", ""];
     assert_eq!(parts, expected);
 }
@@ -157,11 +157,37 @@ fn characters() {
 }
 
 #[test]
+fn iterators_know_what_is_left() {
+    let lexed = lex("val é=\"$a b\" \u{7}".as_bytes()).expect("accepted");
+    let mut tokens = lexed.tokens();
+    assert_eq!((tokens.len(), tokens.len()), (lexed.used().count, tokens.clone().count()));
+    tokens.next();
+    assert_eq!(tokens.size_hint(), (tokens.clone().count(), Some(tokens.clone().count())));
+    let mut errors = lexed.errors();
+    assert_eq!((errors.len(), errors.clone().count()), (2, 2));
+    assert!(lexed.has_errors() && lexed.is_closed());
+    assert_eq!(errors.next().expect("an error").range(), 4..6);
+    assert_eq!((errors.next().map(|e| e.range()), errors.len(), errors.next()), (Some(14..15), 0, None));
+    let open = lex(b"/*").expect("accepted");
+    assert!(!open.is_closed() && open.has_errors());
+    assert!(!lex(b"a").expect("accepted").has_errors());
+}
+
+#[test]
+fn columns_are_an_editors() {
+    let lexed = lex("a\n é b".as_bytes()).expect("accepted");
+    assert_eq!(columns(lexed.source()), [1, 2, 1, 2, 2, 3, 4, 5]);
+    let b = lexed.tokens().nth(2).expect("a token").0;
+    assert_eq!((b.span.start_line, b.span.start_col), (2, 5), "one more than an editor's, behind a line feed skipped as space");
+    assert_eq!(columns(""), [1]);
+}
+
+#[test]
 fn sentences_name_number_figure_and_advice() {
-    for number in 1..=8 {
-        let sentence = refusal(number, 4711).to_string();
-        assert!(sentence.starts_with(&format!("refusal {number}, figure 4711: ")), "{sentence}");
-        assert!(sentence.ends_with(refusal(number, 0).advice()), "{sentence}");
+    for kind in RefusalKind::ALL {
+        let sentence = Refusal { kind: *kind, figure: 4711 }.to_string();
+        assert!(sentence.starts_with(&format!("refusal {}, figure 4711: {}", kind.number(), kind.meaning())), "{sentence}");
+        assert!(sentence.ends_with(kind.advice()), "{sentence}");
         assert!(sentence.matches("4711").count() == 2, "{sentence}");
     }
     let words: Vec<String> = errors("\"\\q\"\u{7}").iter().map(LexError::to_string).collect();
@@ -169,18 +195,48 @@ fn sentences_name_number_figure_and_advice() {
     assert!(words[1].starts_with("error 1: ") && words[1].contains("U+0007; "), "{words:?}");
 }
 
-/// The rows `X(name, "spelling")` of aura_kinds.h.
-fn header_rows() -> Vec<(&'static str, &'static str)> {
-    let header = include_str!("../../include/aura_kinds.h");
-    let rows = header.lines().filter_map(|line| line.trim().strip_prefix("X(")?.split_once(", \""));
-    rows.map(|(name, rest)| (name, rest.split('"').next().expect("a spelling"))).collect()
+#[test]
+#[should_panic(expected = "link the library that belongs to this crate")]
+fn a_number_that_is_not_in_use_comes_from_another_library() {
+    Refusal::from_answer(99, 0);
 }
+
+/// The rows `X(..)` of a macro of a header, each as its arguments; texts without their quotes.
+fn header_rows(header: &str, table: &str) -> Vec<Vec<String>> {
+    let start = header.find(&format!("#define {table}(X)")).expect("the header has the table");
+    let rows = header[start..].lines().skip(1).map_while(|line| line.trim().strip_prefix("X("));
+    rows.map(arguments).collect()
+}
+
+/// The arguments up to the closing bracket of a row.
+fn arguments(row: &str) -> Vec<String> {
+    let (mut all, mut quoted) = (vec![String::new()], false);
+    let mut chars = row.chars();
+    while let Some(c) = chars.next() {
+        let last = all.last_mut().expect("an argument");
+        match c {
+            '"' => quoted = !quoted,
+            '\\' => last.push(chars.next().expect("an escape")),
+            ',' if !quoted => all.push(String::new()),
+            ')' if !quoted => break,
+            ' ' if !quoted => {}
+            _ => last.push(c),
+        }
+    }
+    all
+}
+
+const KINDS_H: &str = include_str!("../../include/aura_kinds.h");
+const WORDS_H: &str = include_str!("../../include/aura_words.h");
+const LEXER_H: &str = include_str!("../../include/aura_lexer.h");
+const HOSTS_MD: &str = include_str!("../../docs/HOSTS.md");
 
 #[test]
 fn the_kinds_are_those_of_the_header() {
-    let ours: Vec<_> = TokenKind::all().iter().map(|k| (k.name(), k.spelling())).collect();
+    let ours: Vec<_> =
+        TokenKind::all().iter().map(|k| vec![k.number().to_string(), k.name().to_string(), k.spelling().to_string()]).collect();
     assert_eq!(ours.len(), 126);
-    assert_eq!(ours, header_rows());
+    assert_eq!(ours, header_rows(KINDS_H, "AURA_KINDS"));
     for (i, kind) in TokenKind::all().iter().enumerate() {
         assert_eq!((kind.number() as usize, TokenKind::from_number(i as u64)), (i, Some(*kind)));
         assert!(kind.spelling().len() <= 9 && (!kind.carries_text() || kind.spelling().is_empty()));
@@ -204,21 +260,44 @@ fn error_kinds_are_numbered_from_1() {
     assert_eq!((ErrorKind::from_number(0), ErrorKind::from_number(11)), (None, None));
 }
 
-/// The README's table rows, without the marks of code.
-fn readme_rows() -> Vec<String> {
-    let readme = include_str!("../../README.md");
-    readme.lines().filter(|line| line.starts_with('|')).map(|line| line.replace('`', "")).collect()
+/// The rows of our table of errors: number, meaning, advice.
+fn error_rows() -> Vec<[String; 3]> {
+    ErrorKind::ALL.iter().map(|kind| [kind.number().to_string(), kind.meaning().to_string(), kind.advice().to_string()]).collect()
+}
+
+/// The rows of our table of refusals: number, meaning, figure, advice.
+fn refusal_rows() -> Vec<[String; 4]> {
+    let row = |kind: &RefusalKind| [kind.number().to_string(), kind.meaning().into(), kind.figure().into(), kind.advice().into()];
+    RefusalKind::ALL.iter().map(row).collect()
+}
+
+/// The rows of a table of a page behind a heading, without the marks of code.
+fn page_rows(page: &str, heading: &str) -> Vec<Vec<String>> {
+    let start = page.find(&format!("\n{heading}\n")).expect("the page has the heading");
+    let rows = page[start..].lines().skip_while(|line| !line.starts_with('|')).take_while(|line| line.starts_with('|')).skip(2);
+    rows.map(|row| row.replace('`', "").trim_matches('|').split(" | ").map(|cell| cell.trim().to_string()).collect()).collect()
+}
+
+/// The rows of a table of a header without the second argument, which is the name of a constant.
+fn unnamed(table: &str) -> Vec<Vec<String>> {
+    let mut rows = header_rows(WORDS_H, table);
+    rows.iter_mut().for_each(|row| drop(row.remove(1)));
+    rows
 }
 
 #[test]
-fn the_readme_tells_errors_and_refusals_in_the_same_words() {
-    let rows = readme_rows();
-    for kind in ErrorKind::ALL {
-        let row = format!("| {} | {} | {} |", kind.number(), kind.meaning(), kind.advice());
-        assert!(rows.contains(&row), "the README has no row {row}");
-    }
-    for number in 1..=8 {
-        let (start, end) = (format!("| {number} | "), format!(" | {} |", refusal(number, 0).advice()));
-        assert!(rows.iter().any(|row| row.starts_with(&start) && row.ends_with(&end)), "the README has no row {start}..{end}");
-    }
+fn errors_and_refusals_are_told_in_the_same_words_everywhere() {
+    assert_eq!((error_rows().len(), refusal_rows().len()), (10, 8));
+    assert_eq!(unnamed("AURA_ERRORS"), error_rows());
+    assert_eq!(unnamed("AURA_REFUSALS"), refusal_rows());
+    assert_eq!(page_rows(HOSTS_MD, "## Errors"), error_rows());
+    assert_eq!(page_rows(HOSTS_MD, "## Refusals"), refusal_rows());
+}
+
+#[test]
+fn the_version_is_the_headers() {
+    let defined =
+        |name: &str| LEXER_H.lines().find_map(|line| line.strip_prefix(&format!("#define {name} "))).expect("the header defines it");
+    assert_eq!(defined("AURA_VERSION"), format!("{:?}", env!("CARGO_PKG_VERSION")));
+    assert_eq!(defined("AURA_ORIGINAL"), format!("{ORIGINAL:?}"));
 }
