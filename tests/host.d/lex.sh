@@ -104,7 +104,9 @@ wrong_words() {
     said '^lex: cannot read .*no such file: .+; .+'
     status 2 ./lex --unknown
     said '^lex: --unknown is not understood; .+'
-    status 2 ./lex one two
+    status 2 ./lex chek examples/data/val.aura
+    said '^lex: chek is no command, .+; commands are list, check and colour; .+'
+    status 2 ./lex list one two
     said '^lex: two is one file too many; .+'
     status 2 ./lex colour --colour=often examples/data/val.aura
     said '^lex: --colour=often is not understood: it is auto, always or never; .+'
@@ -142,6 +144,8 @@ names() {
     status 0 ./lex list --names examples/data/val.aura
     printf '%s\n' '1:1-1:3 Val "val"' '1:5-1:5 Ident "a"' '1:6-1:6 Assign "="' '1:7-1:7 IntLiteral "1"' '1:8 EOF' closed > "$out/expected"
     same "--names" "$out/got" "$out/expected"
+    status 0 ./lex examples/data/val.aura --names
+    same "--names behind" "$out/got" "$out/expected"
     status 0 ./lex list --names examples/data/open-interpolation.aura
     wrote '^2:1 error 8: .*, begun at line 1, column 14; .+'
     wrote '^open$'
@@ -224,12 +228,15 @@ no_further() {
     rm -f "$out/long.aura"
 }
 
-progress() {
+# On a terminal: what is read from the keyboard, and how far a check is.
+terminals() {
     if has_script; then
+        on_terminal "sh -c 'printf x | timeout 5 ./lex list -' ; timeout 0.5 ./lex"
+        wrote '^lex: reading a script from the keyboard, '
         on_terminal "sh -c '(sleep 1.3; cat examples/data/val.aura) | ./lex check - examples/data/val.aura'"
         wrote '0 of 1 files checked'
     else
-        echo "progress on a terminal: skipped: there is no script (bsdutils)"
+        echo "the terminal: skipped: there is no script (bsdutils)"
     fi
 }
 
@@ -359,7 +366,7 @@ names
 checking
 odd_files
 no_further
-progress
+terminals
 in_colour
 at_the_end
 when_in_colour

@@ -117,14 +117,26 @@ impl Script {
     }
 }
 
-/// Whether a name fits a pattern, in which `*` stands for any characters and `?` for one.
+/// Whether a name fits a pattern, in which `*` stands for any characters and `?` for one. Where the characters behind a `*` do not fit, it
+/// takes one character more; only the last `*` ever has to.
 pub fn fits(pattern: &str, name: &str) -> bool {
-    let mut rest = pattern.chars();
-    match rest.next() {
-        None => name.is_empty(),
-        Some('*') => name.char_indices().map(|(at, _)| at).chain([name.len()]).any(|at| fits(rest.as_str(), &name[at..])),
-        Some(c) => name.chars().next().is_some_and(|d| (c == '?' || c == d) && fits(rest.as_str(), &name[d.len_utf8()..])),
+    let [pattern, name]: [Vec<char>; 2] = [pattern, name].map(|text| text.chars().collect());
+    let (mut at, mut seen, mut star) = (0, 0, None);
+    while seen < name.len() {
+        match (pattern.get(at), star) {
+            (Some('*'), _) => {
+                star = Some((at + 1, seen));
+                at += 1;
+            }
+            (Some(&c), _) if c == '?' || c == name[seen] => (at, seen) = (at + 1, seen + 1),
+            (_, Some((behind, taken))) => {
+                star = Some((behind, taken + 1));
+                (at, seen) = (behind, taken + 1);
+            }
+            (_, None) => return false,
+        }
     }
+    pattern[at..].iter().all(|&c| c == '*')
 }
 
 #[cfg(test)]
@@ -134,12 +146,15 @@ mod tests {
 
     #[test]
     fn patterns() {
-        for (pattern, name) in [("*.aura", "a.aura"), ("*.aura", ".aura"), ("?.a*", "é.aura"), ("*", ""), ("a*b*c", "a1b2b3c"), ("", "")] {
+        for (pattern, name) in
+            [("*.aura", "a.aura"), ("*.aura", ".aura"), ("?.a*", "é.aura"), ("*", ""), ("a*b*c", "a1b2b3c"), ("", ""), ("**", "a")]
+        {
             assert!(fits(pattern, name), "{pattern} {name}");
         }
-        for (pattern, name) in [("*.aura", "a.aur"), ("?", ""), ("a*b", "ac"), ("", "a"), ("*.aura", "a.aura~")] {
+        for (pattern, name) in [("*.aura", "a.aur"), ("?", ""), ("a*b", "ac"), ("", "a"), ("*.aura", "a.aura~"), ("*?", "")] {
             assert!(!fits(pattern, name), "{pattern} {name}");
         }
+        assert!(!fits(&"*a".repeat(60), &("a".repeat(200) + "b")), "it takes no longer than the two lengths multiplied");
     }
 
     #[test]

@@ -80,6 +80,9 @@ fn print(text: &str) -> Result<Status, Failure> {
 /// The one script of a command, and what to call it.
 fn read(asked: &Asked) -> Result<(String, Script), Failure> {
     let file = asked.file().map_err(Failure::Words)?;
+    if file.is_none() && io::stdin().is_terminal() {
+        say("reading a script from the keyboard, up to Ctrl-D; ./lex --help tells what else it does");
+    }
     let (name, script) = match file {
         None => ("standard input".to_string(), Script::read(io::stdin(), None)),
         Some(file) => (visible::name(Path::new(file)), Script::open(Path::new(file))),
@@ -141,6 +144,10 @@ fn colour(words: &[OsString]) -> Result<Status, Failure> {
     Ok(Status::Good)
 }
 
+fn is_option(word: &OsString) -> bool {
+    word.as_encoded_bytes().starts_with(b"-")
+}
+
 fn run(words: &[OsString]) -> Result<Status, Failure> {
     let rest = words.get(1..).unwrap_or_default();
     match words.first().and_then(|word| word.to_str()) {
@@ -149,6 +156,10 @@ fn run(words: &[OsString]) -> Result<Status, Failure> {
         Some("colour") => colour(rest),
         Some("--version") => print(VERSION),
         Some("--colour" | "--color") => Err(Failure::Words("a script in colour is ./lex colour FILE".to_string())),
+        Some(word) if !is_option(&words[0]) && !rest.iter().all(is_option) => {
+            let word = visible::name(Path::new(word));
+            Err(Failure::Words(format!("{word} is no command, and a file alone is ./lex FILE; commands are list, check and colour")))
+        }
         _ => list(words, HELP),
     }
 }
