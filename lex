@@ -47,22 +47,26 @@ newer() {
     [ -n "$(find "$@" -newer "$than" | head -n 1)" ]
 }
 
-# changed NAME FILE..: whether the files are others than the stamp says. Files that were only touched are not.
+# changed NAME FILE..: whether the files are others than the stamp says. Files that were only touched are not. It goes by the time of
+# the last change of any kind: a file that was copied may be other and yet older.
 changed() {
     kept=$stamps/$1
     shift
     [ -f "$kept" ] || return 0
-    newer "$kept" "$@" || return 1
+    [ -n "$(find "$@" -cnewer "$kept" | head -n 1)" ] || return 1
     [ "$(checksum "$@")" = "$(cat "$kept")" ] || return 0
     touch "$kept"
     return 1
 }
 
-# A library that another command made from these sources will do.
+# The stamp is of the library and its sources, so that one made of others is not taken. A library that another command made is taken
+# where no source is newer.
 needs_library() {
     [ -f "$library" ] || return 0
-    [ -f "$stamps/library" ] || newer "$library" "$@" || stamp library "$@"
-    changed library "$@"
+    changed library "$library" "$@" || return 1
+    ! newer "$library" "$@" || return 0
+    stamp library "$library" "$@"
+    return 1
 }
 
 needs_program() {
@@ -123,7 +127,7 @@ prove() {
     rm -f "$logs/proved"
     { rt staticlib aura_host 2>&1 && : > "$logs/proved"; } | follow > "$logs/prover"
     [ -f "$logs/proved" ] || failed "the prover (rt staticlib aura_host)" "$logs/prover"
-    stamp library "$@"
+    stamp library "$library" "$@"
 }
 
 build() {

@@ -28,14 +28,24 @@ c_calls() {
     checks=$((checks + 1))
 }
 
-# c_alone COMPILER..: each header alone is free of warnings.
+# c_compiles HEADER COMPILER..: what includes it in $out/header.c is free of warnings.
+c_compiles() {
+    local header=$1
+    shift
+    "$@" "${c_warnings[@]}" -Wshadow -Wconversion -Wsign-conversion -O2 -Iinclude -c "$out/header.c" -o "$out/header.o" \
+        || fail "$header: $*"
+    checks=$((checks + 1))
+}
+
+# c_alone COMPILER..: each header alone and twice, and behind stdio.h, in which EOF is a macro.
 c_alone() {
-    local header
+    local header name
     for header in include/*.h; do
-        printf '#include "%s"\n' "${header##*/}" > "$out/header.c"
-        "$@" "${c_warnings[@]}" -Wshadow -Wconversion -Wsign-conversion -O2 -Iinclude -c "$out/header.c" -o "$out/header.o" \
-            || fail "$header alone: $*"
-        checks=$((checks + 1))
+        name=${header##*/}
+        printf '#include "%s"\n' "$name" "$name" > "$out/header.c"
+        c_compiles "$header" "$@"
+        printf '#include <stdio.h>\n#include "%s"\n' "$name" > "$out/header.c"
+        c_compiles "$header" "$@"
     done
 }
 

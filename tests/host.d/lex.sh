@@ -75,7 +75,31 @@ first_use() {
     status 0 "$lex" "$script"
     said '^lex: building the program, once$'
     said_lines 1
+    another_library "$copy" "$script"
+    echo "fn broken(" >> "$copy/a tree/tools/src/main.rs"
+    status 2 "$lex" "$script"
+    said '^lex: cargo failed; its last lines:$'
+    said '^error: '
+    said '^lex: .*target/log/cargo'
     rm -rf "$copy"
+}
+
+# A library of other sources is made again; one that another command made since is taken.
+another_library() {
+    local copy=$1 made="$1/a tree/target/staticlib/libaura_host.a"
+    echo "another one" > "$made"
+    touch -d '2000-01-01' "$made"
+    PATH="$copy/bin:$PATH" status 0 "$copy/a tree/lex" "$2"
+    said '^lex: proving and building the lexer, '
+    same "made again" "$made" "$library"
+    sleep 0.1
+    echo "static const int more = 1; int aura_more(void); int aura_more(void) { return more; }" > "$copy/more.c"
+    gcc -c "$copy/more.c" -o "$copy/more.o"
+    ar q "$made" "$copy/more.o"
+    status 0 "$copy/a tree/lex" "$2"
+    said '^lex: building the program, once$'
+    said_lines 1
+    cp "$library" "$made"
 }
 
 # The help of each command fits 80 columns, and needs no program; --version names version and original.

@@ -5,7 +5,7 @@ use std::ops::Range;
 
 /// What a byte of the script belongs to.
 #[derive(Clone, Copy, Debug, PartialEq, Eq)]
-pub enum Paint {
+pub enum Highlight {
     Plain,
     Comment,
     Doc,
@@ -21,105 +21,105 @@ pub enum Paint {
 /// How something looks: its number among the 256 colours of terminals, none for the ground's own; the same as red, green and blue; and
 /// the letters.
 #[derive(Clone, Copy, Debug, PartialEq, Eq)]
-pub struct Look {
+pub struct Style {
     pub colour: Option<(u8, &'static str)>,
     pub bold: bool,
     pub italic: bool,
     pub underline: bool,
 }
 
-const fn look(colour: Option<(u8, &'static str)>) -> Look {
-    Look { colour, bold: false, italic: false, underline: false }
+const fn style(colour: Option<(u8, &'static str)>) -> Style {
+    Style { colour, bold: false, italic: false, underline: false }
 }
 
 /// A mistake, whatever it belongs to.
-pub const MISTAKE: Look = Look { bold: true, underline: true, ..look(Some((196, "#ff0000"))) };
+pub const MISTAKE: Style = Style { bold: true, underline: true, ..style(Some((196, "#ff0000"))) };
 
-impl Paint {
-    pub const ALL: [Paint; 10] = [
-        Paint::Plain,
-        Paint::Comment,
-        Paint::Doc,
-        Paint::Keyword,
-        Paint::Name,
-        Paint::Number,
-        Paint::Text,
-        Paint::Interpolation,
-        Paint::Mark,
-        Paint::Wrong,
+impl Highlight {
+    pub const ALL: [Highlight; 10] = [
+        Highlight::Plain,
+        Highlight::Comment,
+        Highlight::Doc,
+        Highlight::Keyword,
+        Highlight::Name,
+        Highlight::Number,
+        Highlight::Text,
+        Highlight::Interpolation,
+        Highlight::Mark,
+        Highlight::Wrong,
     ];
 
     fn of(kind: TokenKind) -> Self {
         match kind.number() {
-            0 | 1 => Paint::Number,
-            2 | 3 => Paint::Text,
-            5 => Paint::Name,
-            4 | 6..=68 => Paint::Keyword,
-            121 => Paint::Interpolation,
-            123 => Paint::Doc,
-            124 => Paint::Plain,
-            125 => Paint::Wrong,
-            _ => Paint::Mark,
+            0 | 1 => Highlight::Number,
+            2 | 3 => Highlight::Text,
+            5 => Highlight::Name,
+            4 | 6..=68 => Highlight::Keyword,
+            121 => Highlight::Interpolation,
+            123 => Highlight::Doc,
+            124 => Highlight::Plain,
+            125 => Highlight::Wrong,
+            _ => Highlight::Mark,
         }
     }
 
     /// Colours that stand off from a black and from a white ground alike: at least 3.9 to 1 (WCAG's contrast), as the tests work out.
-    pub fn look(self) -> Look {
+    pub fn style(self) -> Style {
         match self {
-            Paint::Plain | Paint::Mark => look(None),
-            Paint::Comment => look(Some((243, "#767676"))),
-            Paint::Doc => Look { italic: true, ..look(Some((65, "#5f875f"))) },
-            Paint::Keyword => Look { bold: true, ..look(Some((63, "#5f5fff"))) },
-            Paint::Name => look(Some((30, "#008787"))),
-            Paint::Number => look(Some((130, "#af5f00"))),
-            Paint::Text => look(Some((28, "#008700"))),
-            Paint::Interpolation => look(Some((163, "#d700af"))),
-            Paint::Wrong => look(Some((196, "#ff0000"))),
+            Highlight::Plain | Highlight::Mark => style(None),
+            Highlight::Comment => style(Some((243, "#767676"))),
+            Highlight::Doc => Style { italic: true, ..style(Some((65, "#5f875f"))) },
+            Highlight::Keyword => Style { bold: true, ..style(Some((63, "#5f5fff"))) },
+            Highlight::Name => style(Some((30, "#008787"))),
+            Highlight::Number => style(Some((130, "#af5f00"))),
+            Highlight::Text => style(Some((28, "#008700"))),
+            Highlight::Interpolation => style(Some((163, "#d700af"))),
+            Highlight::Wrong => style(Some((196, "#ff0000"))),
         }
     }
 
     /// Its name in a page.
     pub fn class(self) -> &'static str {
         match self {
-            Paint::Plain => "plain",
-            Paint::Comment => "comment",
-            Paint::Doc => "doc",
-            Paint::Keyword => "keyword",
-            Paint::Name => "name",
-            Paint::Number => "number",
-            Paint::Text => "text",
-            Paint::Interpolation => "interpolation",
-            Paint::Mark => "mark",
-            Paint::Wrong => "wrong",
+            Highlight::Plain => "plain",
+            Highlight::Comment => "comment",
+            Highlight::Doc => "doc",
+            Highlight::Keyword => "keyword",
+            Highlight::Name => "name",
+            Highlight::Number => "number",
+            Highlight::Text => "text",
+            Highlight::Interpolation => "interpolation",
+            Highlight::Mark => "mark",
+            Highlight::Wrong => "wrong",
         }
     }
 }
 
-/// The paints of a script's bytes, filled from the front.
-struct Canvas<'a> {
+/// The highlights of a script's bytes, filled from the front.
+struct Highlighter<'a> {
     source: &'a str,
-    paints: Vec<Paint>,
+    highlights: Vec<Highlight>,
 }
 
-impl Canvas<'_> {
-    /// Paints from where the canvas ends up to an offset; what lies before keeps.
-    fn to(&mut self, end: usize, paint: Paint) {
-        if end > self.paints.len() {
-            self.paints.resize(end, paint);
+impl Highlighter<'_> {
+    /// Highlights from where the last one ends up to an offset; what lies before keeps.
+    fn to(&mut self, end: usize, highlight: Highlight) {
+        if end > self.highlights.len() {
+            self.highlights.resize(end, highlight);
         }
     }
 
     /// What lies between two tokens: white space and comments.
     fn gap(&mut self, end: usize) {
-        let start = self.paints.len();
+        let start = self.highlights.len();
         if start >= end {
             return;
         }
         let between = &self.source[start..end];
         let comment = start + between.trim_end().len();
-        self.to(comment - between.trim().len(), Paint::Plain);
-        self.to(comment, Paint::Comment);
-        self.to(end, Paint::Plain);
+        self.to(comment - between.trim().len(), Highlight::Plain);
+        self.to(comment, Highlight::Comment);
+        self.to(end, Highlight::Plain);
     }
 
     /// An interpolation: in a string its span begins at the string's start, so that its own begin is found by its text. The text of
@@ -128,16 +128,16 @@ impl Canvas<'_> {
         let end = token.range().end;
         if in_string(token, self.source) {
             let cut_off = text.starts_with("${") && !self.source[..end].ends_with('}');
-            self.to(end + usize::from(cut_off) - text.len(), Paint::Text);
+            self.to(end + usize::from(cut_off) - text.len(), Highlight::Text);
         }
-        self.to(end, Paint::Interpolation);
+        self.to(end, Highlight::Interpolation);
     }
 
     /// The end of a string behind its last interpolation, where no piece follows: escapes that give no character, and the quote.
     fn rest_of_string(&mut self) {
-        let start = self.paints.len();
+        let start = self.highlights.len();
         if let Some(quote) = self.source[start..].find('"') {
-            self.to(start + quote + 1, Paint::Text);
+            self.to(start + quote + 1, Highlight::Text);
         }
     }
 }
@@ -146,24 +146,24 @@ fn in_string(token: &Token, source: &str) -> bool {
     source[token.range().start..].starts_with('"')
 }
 
-/// The paint of each byte after the byte-order mark.
-pub fn paints(lexed: &Lexed) -> Vec<Paint> {
+/// The highlight of each byte after the byte-order mark.
+pub fn highlights(lexed: &Lexed) -> Vec<Highlight> {
     let source = lexed.source();
-    let mut canvas = Canvas { source, paints: Vec::with_capacity(source.len()) };
+    let mut highlighter = Highlighter { source, highlights: Vec::with_capacity(source.len()) };
     let mut tokens = lexed.tokens().peekable();
     while let Some((token, text)) = tokens.next() {
-        canvas.gap(token.range().start);
+        highlighter.gap(token.range().start);
         if token.kind != TokenKind::StringInterpStart {
-            canvas.to(token.range().end, Paint::of(token.kind));
+            highlighter.to(token.range().end, Highlight::of(token.kind));
             continue;
         }
-        canvas.interpolation(&token, text);
+        highlighter.interpolation(&token, text);
         let is_last = tokens.peek().is_none_or(|(next, _)| next.span.start != token.span.start);
         if is_last && in_string(&token, source) {
-            canvas.rest_of_string();
+            highlighter.rest_of_string();
         }
     }
-    canvas.paints
+    highlighter.highlights
 }
 
 /// Whether each byte belongs to a mistake.
@@ -177,38 +177,38 @@ pub fn wrong(lexed: &Lexed) -> Vec<bool> {
 }
 
 /// A part of a line that is shown in one way.
-pub struct Stretch<'a> {
+pub struct Run<'a> {
     pub text: &'a str,
-    pub paint: Paint,
+    pub highlight: Highlight,
     pub wrong: bool,
 }
 
 /// A line, and what ends it: nothing for the last one.
 pub struct Line<'a> {
-    pub stretches: Vec<Stretch<'a>>,
+    pub runs: Vec<Run<'a>>,
     pub end: &'a str,
 }
 
-/// The lines of a script in their stretches. What ends a line belongs to none, so that no line begins in another's colour.
+/// The lines of a script in their runs. What ends a line belongs to none, so that no line begins in another's colour.
 pub fn lines<'a>(lexed: &'a Lexed) -> impl Iterator<Item = Line<'a>> {
     let source = lexed.source();
-    let (paints, wrong) = (paints(lexed), wrong(lexed));
+    let (highlights, wrong) = (highlights(lexed), wrong(lexed));
     let mut start = 0;
     source.split_inclusive('\n').map(move |line| {
         let (text, end) = without_end(line);
-        let stretches = stretches(source, start..start + text.len(), &paints, &wrong);
+        let runs = runs(source, start..start + text.len(), &highlights, &wrong);
         start += line.len();
-        Line { stretches, end }
+        Line { runs, end }
     })
 }
 
-fn stretches<'a>(source: &'a str, line: Range<usize>, paints: &[Paint], wrong: &[bool]) -> Vec<Stretch<'a>> {
+fn runs<'a>(source: &'a str, line: Range<usize>, highlights: &[Highlight], wrong: &[bool]) -> Vec<Run<'a>> {
     let mut all = Vec::new();
     let mut start = line.start;
     while start < line.end {
-        let same = |at: &usize| (paints[*at], wrong[*at]) == (paints[start], wrong[start]);
+        let same = |at: &usize| (highlights[*at], wrong[*at]) == (highlights[start], wrong[start]);
         let end = (start..line.end).find(|at| !same(at)).unwrap_or(line.end);
-        all.push(Stretch { text: &source[start..end], paint: paints[start], wrong: wrong[start] });
+        all.push(Run { text: &source[start..end], highlight: highlights[start], wrong: wrong[start] });
         start = end;
     }
     all

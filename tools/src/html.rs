@@ -1,5 +1,5 @@
 //! The script in colour as one page that needs no other file.
-use crate::colour::{lines, Look, Paint, Stretch, MISTAKE};
+use crate::colour::{lines, Highlight, Run, Style, MISTAKE};
 use crate::mistakes::{mistakes, Mistake, Places, OPEN};
 use crate::MOST_WORDS;
 use aura_lexer::Lexed;
@@ -14,13 +14,13 @@ fn escaped(text: &str) -> String {
     escape(&text.chars().map(visible).collect::<String>())
 }
 
-fn write_look(out: &mut impl Write, class: &str, look: Look) -> io::Result<()> {
+fn write_style(out: &mut impl Write, class: &str, style: Style) -> io::Result<()> {
     write!(out, "code .{class} {{")?;
-    if let Some((_, colour)) = look.colour {
+    if let Some((_, colour)) = style.colour {
         write!(out, " color: {colour};")?;
     }
     for (on, words) in
-        [(look.bold, " font-weight: bold;"), (look.italic, " font-style: italic;"), (look.underline, " text-decoration: underline;")]
+        [(style.bold, " font-weight: bold;"), (style.italic, " font-style: italic;"), (style.underline, " text-decoration: underline;")]
     {
         write!(out, "{}", if on { words } else { "" })?;
     }
@@ -34,10 +34,10 @@ fn write_head(out: &mut impl Write, name: &str) -> io::Result<()> {
         "<meta name=\"viewport\" content=\"width=device-width\">\n<title>{name}</title>\n<style>\n{STYLE}",
         name = escaped(name)
     )?;
-    for paint in Paint::ALL.iter().filter(|paint| paint.look() != Paint::Plain.look()) {
-        write_look(out, paint.class(), paint.look())?;
+    for highlight in Highlight::ALL.iter().filter(|highlight| highlight.style() != Highlight::Plain.style()) {
+        write_style(out, highlight.class(), highlight.style())?;
     }
-    write_look(out, "mistake", MISTAKE)?;
+    write_style(out, "mistake", MISTAKE)?;
     writeln!(out, "</style>\n</head>\n<body>\n<h1>{}</h1>", escaped(name))
 }
 
@@ -54,18 +54,18 @@ fn write_summary(out: &mut impl Write, lexed: &Lexed) -> io::Result<()> {
     }
 }
 
-fn write_stretch(out: &mut impl Write, stretch: &Stretch) -> io::Result<()> {
-    let text = escaped(stretch.text);
-    match (stretch.wrong, stretch.paint) {
+fn write_run(out: &mut impl Write, run: &Run) -> io::Result<()> {
+    let text = escaped(run.text);
+    match (run.wrong, run.highlight) {
         (true, _) => write!(out, "<span class=\"mistake\">{text}</span>"),
-        (false, Paint::Plain | Paint::Mark) => write!(out, "{text}"),
-        (false, paint) => write!(out, "<span class=\"{}\">{text}</span>", paint.class()),
+        (false, Highlight::Plain | Highlight::Mark) => write!(out, "{text}"),
+        (false, highlight) => write!(out, "<span class=\"{}\">{text}</span>", highlight.class()),
     }
 }
 
-fn write_line(out: &mut impl Write, number: usize, stretches: &[Stretch]) -> io::Result<()> {
+fn write_line(out: &mut impl Write, number: usize, runs: &[Run]) -> io::Result<()> {
     write!(out, "<div class=\"line\" id=\"L{number}\"><a href=\"#L{number}\">{number}</a><code>")?;
-    stretches.iter().try_for_each(|stretch| write_stretch(out, stretch))?;
+    runs.iter().try_for_each(|run| write_run(out, run))?;
     writeln!(out, "</code></div>")
 }
 
@@ -84,7 +84,7 @@ pub fn write(lexed: &Lexed, name: &str, out: &mut impl Write) -> io::Result<()> 
     write_summary(out, lexed)?;
     writeln!(out, "<main>")?;
     for (line, number) in lines(lexed).zip(1..) {
-        write_line(out, number, &line.stretches)?;
+        write_line(out, number, &line.runs)?;
         while let Some(mistake) = told.next_if(|mistake| mistake.at.line == number) {
             write_mistake(out, mistake)?;
         }

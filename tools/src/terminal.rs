@@ -1,5 +1,5 @@
 //! The script in colour on a terminal, and its mistakes in words.
-use crate::colour::{lines, Look, Stretch, MISTAKE};
+use crate::colour::{lines, Run, Style, MISTAKE};
 use crate::mistakes::{mistakes, Places, OPEN};
 use crate::MOST_WORDS;
 use aura_lexer::Lexed;
@@ -8,20 +8,20 @@ use std::io::{self, Write};
 
 const RESET: &str = "\x1B[0m";
 
-/// The sequence that turns a look on.
-fn sequence(look: Look) -> String {
-    let letters = [(look.bold, "1"), (look.italic, "3"), (look.underline, "4")];
+/// The sequence that turns a style on.
+fn sequence(style: Style) -> String {
+    let letters = [(style.bold, "1"), (style.italic, "3"), (style.underline, "4")];
     let mut codes: Vec<String> = letters.iter().filter(|(on, _)| *on).map(|(_, code)| code.to_string()).collect();
-    codes.extend(look.colour.map(|(number, _)| format!("38;5;{number}")));
+    codes.extend(style.colour.map(|(number, _)| format!("38;5;{number}")));
     if codes.is_empty() {
         return String::new();
     }
     format!("\x1B[{}m", codes.join(";"))
 }
 
-fn write_stretch(out: &mut impl Write, stretch: &Stretch, in_colour: bool) -> io::Result<()> {
-    let text: String = stretch.text.chars().map(visible).collect();
-    let on = sequence(if stretch.wrong { MISTAKE } else { stretch.paint.look() });
+fn write_run(out: &mut impl Write, run: &Run, in_colour: bool) -> io::Result<()> {
+    let text: String = run.text.chars().map(visible).collect();
+    let on = sequence(if run.wrong { MISTAKE } else { run.highlight.style() });
     if !in_colour || on.is_empty() {
         return out.write_all(text.as_bytes());
     }
@@ -32,7 +32,7 @@ fn write_stretch(out: &mut impl Write, stretch: &Stretch, in_colour: bool) -> io
 pub fn write_script(lexed: &Lexed, in_colour: bool, out: &mut impl Write) -> io::Result<()> {
     out.write_all(&lexed.script()[..lexed.script().len() - lexed.source().len()])?;
     for line in lines(lexed) {
-        line.stretches.iter().try_for_each(|stretch| write_stretch(out, stretch, in_colour))?;
+        line.runs.iter().try_for_each(|run| write_run(out, run, in_colour))?;
         out.write_all(line.end.as_bytes())?;
     }
     Ok(())

@@ -1,22 +1,22 @@
 use super::*;
 use aura_lexer::lex;
 
-/// A letter for the paint of each byte; a capital where it belongs to a mistake.
+/// A letter for the highlight of each byte; a capital where it belongs to a mistake.
 fn painted(script: &str) -> String {
     let lexed = lex(script.as_bytes()).expect("accepted");
-    let letter = |paint| match paint {
-        Paint::Plain => '.',
-        Paint::Comment => 'c',
-        Paint::Doc => 'd',
-        Paint::Keyword => 'k',
-        Paint::Name => 'n',
-        Paint::Number => 'z',
-        Paint::Text => 's',
-        Paint::Interpolation => 'i',
-        Paint::Mark => 'm',
-        Paint::Wrong => 'x',
+    let letter = |highlight| match highlight {
+        Highlight::Plain => '.',
+        Highlight::Comment => 'c',
+        Highlight::Doc => 'd',
+        Highlight::Keyword => 'k',
+        Highlight::Name => 'n',
+        Highlight::Number => 'z',
+        Highlight::Text => 's',
+        Highlight::Interpolation => 'i',
+        Highlight::Mark => 'm',
+        Highlight::Wrong => 'x',
     };
-    let letters = paints(&lexed).into_iter().map(letter);
+    let letters = highlights(&lexed).into_iter().map(letter);
     letters.zip(wrong(&lexed)).map(|(c, wrong)| if wrong { c.to_ascii_uppercase() } else { c }).collect()
 }
 
@@ -65,8 +65,8 @@ fn luminance(rgb: [u8; 3]) -> f64 {
 
 #[test]
 fn every_colour_stands_off_from_black_and_from_white() {
-    let looks = Paint::ALL.iter().map(|paint| paint.look()).chain([MISTAKE]);
-    let colours: Vec<_> = looks.filter_map(|look| look.colour).collect();
+    let styles = Highlight::ALL.iter().map(|highlight| highlight.style()).chain([MISTAKE]);
+    let colours: Vec<_> = styles.filter_map(|style| style.colour).collect();
     assert_eq!(colours.len(), 9);
     for (number, name) in colours {
         let [red, green, blue] = rgb(number);
@@ -80,7 +80,7 @@ fn every_colour_stands_off_from_black_and_from_white() {
 fn lines_are_cut_into_stretches_without_their_ends() {
     let lexed = lex(b"val a\r\n\n/* b\n*/\r").expect("accepted");
     let all: Vec<(String, &str)> =
-        lines(&lexed).map(|line| (line.stretches.iter().map(|s| s.text).collect::<Vec<_>>().join("|"), line.end)).collect();
+        lines(&lexed).map(|line| (line.runs.iter().map(|s| s.text).collect::<Vec<_>>().join("|"), line.end)).collect();
     let expected = [("val| |a", "\r\n"), ("", "\n"), ("/* b", "\n"), ("*/|\r", "")];
     assert_eq!(all, expected.map(|(text, end)| (text.to_string(), end)));
 }
