@@ -40,20 +40,20 @@ stamp() {
     checksum "$@" > "$stamps/$name"
 }
 
-# newer FILE FILE..: whether one of the files behind it is newer than the first.
+# newer FILE FILE..: whether something happened to one of the files behind it since the first was written. It does not go by their dates:
+# a file that was moved or copied may be another one and yet have an older date.
 newer() {
     than=$1
     shift
-    [ -n "$(find "$@" -newer "$than" | head -n 1)" ]
+    [ -n "$(find "$@" -cnewer "$than" | head -n 1)" ]
 }
 
-# changed NAME FILE..: whether the files are others than the stamp says. Files that were only touched are not. It goes by the time of
-# the last change of any kind: a file that was copied may be other and yet older.
+# changed NAME FILE..: whether the files are others than the stamp says. Files that were only touched are not.
 changed() {
     kept=$stamps/$1
     shift
     [ -f "$kept" ] || return 0
-    [ -n "$(find "$@" -cnewer "$kept" | head -n 1)" ] || return 1
+    newer "$kept" "$@" || return 1
     [ "$(checksum "$@")" = "$(cat "$kept")" ] || return 0
     touch "$kept"
     return 1
@@ -70,7 +70,7 @@ needs_library() {
 }
 
 needs_program() {
-    [ ! -x "$program" ] || changed program "$@"
+    [ ! -x "$program" ] || changed program "$program" "$@"
 }
 
 # needs_tool NAME WHAT: the tool has to be there to build it.
@@ -134,8 +134,10 @@ build() {
     needs_tool cargo "the program"
     say "building the program, once"
     mkdir -p "$logs"
+    # cargo goes by dates, so nothing is left that it could take for new
+    rm -rf "${program%/*}"
     (cd tools && cargo build --release --offline --target-dir ../target/tools) > "$logs/cargo" 2>&1 || failed cargo "$logs/cargo"
-    stamp program "$@"
+    stamp program "$program" "$@"
 }
 
 # Makes what is missing or older than its sources; one call at a time where the machine can see to that.

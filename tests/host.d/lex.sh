@@ -76,12 +76,28 @@ first_use() {
     said '^lex: building the program, once$'
     said_lines 1
     another_library "$copy" "$script"
+    another_program "$copy" "$script"
     echo "fn broken(" >> "$copy/a tree/tools/src/main.rs"
     status 2 "$lex" "$script"
     said '^lex: cargo failed; its last lines:$'
     said '^error: '
     said '^lex: .*target/log/cargo'
     rm -rf "$copy"
+}
+
+# A program of other sources is made again, also where these are put back with their old dates.
+another_program() {
+    local main="$1/a tree/tools/src/main.rs"
+    cp -p "$main" "$1/main.rs"
+    sleep 0.1
+    sed -i 's/"cannot read {name}/"other: cannot read {name}/' "$main"
+    (cd "$1/a tree/tools" && cargo build --release --offline --quiet --target-dir ../target/tools)
+    status 2 "$1/a tree/target/tools/release/lex" "$1/none"
+    said '^lex: other: '
+    mv "$1/main.rs" "$main"
+    status 2 "$1/a tree/lex" "$1/none"
+    said '^lex: building the program, once$'
+    said '^lex: cannot read '
 }
 
 # A library of other sources is made again; one that another command made since is taken.
