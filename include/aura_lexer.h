@@ -30,9 +30,9 @@ extern "C" {
 #endif
 
 /* The version of the calls, the headers and the crate for Rust. */
-#define AURA_VERSION "0.2.0"
+#define AURA_VERSION "0.3.0"
 #define AURA_VERSION_MAJOR 0
-#define AURA_VERSION_MINOR 2
+#define AURA_VERSION_MINOR 3
 #define AURA_VERSION_PATCH 0
 
 /* The commit of onlynight/AuraLang whose lexer this one is a translation of. */
@@ -100,14 +100,14 @@ enum {
 /* aura_text_check, aura_token_text: the figure alone. */
 enum { AURA_CHECK_SLOTS = 1 };
 
-/* Tokenises a script into three lent buffers. Bytes beyond those used keep. Refusals 1 to 5. */
+/* Tokenises a script into three lent buffers. Bytes beyond those used keep. Refusals 1 to 5, 9 and 10. */
 uint64_t aura_tokenize(const uint8_t *script, size_t script_length,
                        uint8_t *tokens, size_t tokens_length,
                        uint8_t *texts, size_t texts_length,
                        uint8_t *errors, size_t errors_length,
                        uint64_t answer[AURA_USED_SLOTS]);
 
-/* What tokenising would answer. It writes the answer only. Refusals 1 and 2. */
+/* What tokenising would answer. It writes the answer only. Refusals 1, 2, 9 and 10. */
 uint64_t aura_measure(const uint8_t *script, size_t script_length, uint64_t answer[AURA_USED_SLOTS]);
 
 /* The token record at a place. At EOF the next place is the same place. Refusal 7. */
@@ -131,7 +131,8 @@ uint64_t aura_text_check(const uint8_t *script, size_t script_length,
                          const uint8_t *tokens, size_t tokens_length,
                          size_t place, uint64_t answer[AURA_CHECK_SLOTS]);
 
-/* Whether a text of any length is UTF-8. Its answer is the figure alone: the first byte of the first bad sequence. Refusal 2. */
+/* Whether a text of any length is UTF-8. Its answer is the figure alone: the first byte of the first bad sequence. Refusals 2, 9
+ * and 10. */
 uint64_t aura_first_bad(const uint8_t *text, size_t length, uint64_t *figure);
 
 /* The bytes of the byte-order mark that the text begins with: 3 or 0. */

@@ -10,7 +10,8 @@
 #include <stddef.h>
 #include <stdint.h>
 
-/* What a call answers where it says no. The figure of 2 counts the byte-order mark. */
+/* What a call answers where it says no. A script that is not UTF-8 is refused with 9, 10 or 2, by its first bad sequence; the figures of
+ * these three count the byte-order mark. */
 #define AURA_REFUSALS(X) \
     X(1, LENGTH, "the script is over 1,048,576 bytes", "its length", "split the script into parts of at most 1,048,576 bytes") \
     X(2, UTF8, "the script is not UTF-8", "the first byte of the first bad sequence", "save the script as UTF-8") \
@@ -19,7 +20,9 @@
     X(5, ERRORS, "the error buffer is too small", "the bytes needed", "lend an error buffer of at least that size") \
     X(6, KIND, "a kind over 125 was asked for", "the kind", "ask for a kind from 0 to 125") \
     X(7, PLACE, "no whole record of a known kind starts at the place", "the place", "go on from a place that a reader answered, in the part of the buffer that tokenising used") \
-    X(8, TEXT, "a record's text lies outside its buffer", "its offset", "lend the script and the text buffer that belong to the records")
+    X(8, TEXT, "a record's text lies outside its buffer", "its offset", "lend the script and the text buffer that belong to the records") \
+    X(9, CUT, "the script ends in the middle of a character", "the first byte of the first bad sequence", "it was cut short on its way; send it again") \
+    X(10, BARRED, "the script holds bytes that no program may write as UTF-8", "the first byte of the first bad sequence", "the program that saved it is at fault; save the script as UTF-8 with another one")
 
 /* The mistakes that a script has. The records of 1 and 7 have the character's code point. */
 #define AURA_ERRORS(X) \
@@ -34,7 +37,7 @@
     X(9, CHAR_LITERAL, "a character literal without its closing quote", "close it with ' after one character, or use \" for a string") \
     X(10, DOC_COMMENT, "a doc comment without its end", "close it with */")
 
-/* The numbers that calls answer: AURA_YES, AURA_REFUSED_LENGTH, .. , AURA_REFUSED_TEXT. */
+/* The numbers that calls answer: AURA_YES, AURA_REFUSED_LENGTH, .. , AURA_REFUSED_BARRED. */
 #define AURA_ROW(number, name, meaning, figure, advice) AURA_REFUSED_##name = number,
 enum { AURA_YES = 0, AURA_REFUSALS(AURA_ROW) };
 #undef AURA_ROW

@@ -67,7 +67,11 @@ static uint64_t tokenize(const char *script, size_t length, size_t tokens_size, 
 }
 
 static void refused_scripts(void) {
-    CHECK(refused(tokenize("\xC3", 1, N, N, N), AURA_REFUSED_UTF8, 0));
+    CHECK(refused(tokenize("\xC3", 1, N, N, N), AURA_REFUSED_CUT, 0));
+    CHECK(refused(tokenize("\xED\xA0\x80", 3, N, N, N), AURA_REFUSED_BARRED, 0));
+    CHECK(refused(tokenize("a\xFF", 2, N, N, N), AURA_REFUSED_UTF8, 1));
+    CHECK(refused(aura_measure((const uint8_t *)"\xEF\xBB", 2, fresh()), AURA_REFUSED_CUT, 0));
+    CHECK(refused(aura_measure((const uint8_t *)"\xEF\xBB\xBF\xF4\x90", 5, fresh()), AURA_REFUSED_BARRED, 3));
     CHECK(refused(tokenize("", 0, 24, 0, 0), AURA_REFUSED_TOKENS, 25));
     CHECK(refused(tokenize("'a'", 3, N, 0, 0), AURA_REFUSED_TEXTS, 1));
     CHECK(refused(tokenize("''", 2, N, N, 24), AURA_REFUSED_ERRORS, 25));
@@ -160,7 +164,9 @@ static void refused_error_reader(void) {
 static void characters(void) {
     const uint8_t *marked = (const uint8_t *)"\xEF\xBB\xBF\xC3";
     CHECK(yes(aura_first_bad(marked, 3, fresh()), AURA_FIGURE + 1));
-    CHECK(refused(aura_first_bad(marked, 4, fresh()), AURA_REFUSED_UTF8, 3));
+    CHECK(refused(aura_first_bad(marked, 4, fresh()), AURA_REFUSED_CUT, 3));
+    CHECK(refused(aura_first_bad((const uint8_t *)"\xE0\x80", 2, fresh()), AURA_REFUSED_BARRED, 0));
+    CHECK(refused(aura_first_bad((const uint8_t *)"a\xC3(", 3, fresh()), AURA_REFUSED_UTF8, 1));
     CHECK(aura_mark_length(marked, 3) == 3 && aura_mark_length(marked, 2) == 0);
     CHECK(aura_is_white(0x2028) == 1 && aura_is_white(0x200B) == 0);
     uint8_t buffer[4] = {GUARD, GUARD, GUARD, GUARD};
@@ -264,12 +270,13 @@ static int said(const char *words) {
 
 static void words(void) {
     static const uint64_t refusals[] = {AURA_REFUSED_LENGTH, AURA_REFUSED_UTF8, AURA_REFUSED_TOKENS, AURA_REFUSED_TEXTS,
-                                        AURA_REFUSED_ERRORS, AURA_REFUSED_KIND, AURA_REFUSED_PLACE, AURA_REFUSED_TEXT};
+                                        AURA_REFUSED_ERRORS, AURA_REFUSED_KIND, AURA_REFUSED_PLACE, AURA_REFUSED_TEXT,
+                                        AURA_REFUSED_CUT, AURA_REFUSED_BARRED};
     static const uint64_t mistakes[] = {AURA_ERROR_CHARACTER, AURA_ERROR_COMMENT, AURA_ERROR_RAW_STRING, AURA_ERROR_STRING_END,
                                         AURA_ERROR_STRING_LINE, AURA_ERROR_UNICODE, AURA_ERROR_ESCAPE, AURA_ERROR_INTERPOLATION,
                                         AURA_ERROR_CHAR_LITERAL, AURA_ERROR_DOC_COMMENT};
-    static const uint64_t unused[] = {0, 9, 11, 257, UINT64_MAX};
-    for (uint64_t i = 1; i <= 8; i++) {
+    static const uint64_t unused[] = {0, 11, 257, UINT64_MAX};
+    for (uint64_t i = 1; i <= 10; i++) {
         CHECK(refusals[i - 1] == i);
         CHECK(said(aura_refusal_meaning(i)) && said(aura_refusal_figure(i)) && said(aura_refusal_advice(i)));
     }
@@ -277,10 +284,10 @@ static void words(void) {
         CHECK(mistakes[i - 1] == i);
         CHECK(said(aura_error_meaning(i)) && said(aura_error_advice(i)));
     }
-    for (int i = 0; i < 5; i++) {
+    for (int i = 0; i < 4; i++) {
         uint64_t number = unused[i];
         CHECK(aura_refusal_meaning(number) == NULL && aura_refusal_figure(number) == NULL && aura_refusal_advice(number) == NULL);
-        CHECK(number == 9 || (aura_error_meaning(number) == NULL && aura_error_advice(number) == NULL));
+        CHECK(aura_error_meaning(number) == NULL && aura_error_advice(number) == NULL);
     }
     CHECK(strcmp(aura_refusal_figure(AURA_REFUSED_LENGTH), "its length") == 0);
     CHECK(strcmp(aura_error_meaning(AURA_ERROR_UNICODE), "\x5Cu without four hexadecimal digits") == 0);

@@ -324,8 +324,7 @@ fn measure_alone() {
     }
 }
 
-fn check_row(name: &str, text: &str) {
-    let bytes = text.as_bytes();
+fn check_row(name: &str, bytes: &[u8]) {
     let [rust, ours] = best([&mut |runs| timed(runs, || std::str::from_utf8(black_box(bytes)).is_ok()), &mut |runs| {
         timed(runs, || host::first_bad(black_box(bytes)))
     }]);
@@ -337,12 +336,13 @@ fn check_row(name: &str, text: &str) {
 fn check_alone() {
     say!("\n{:<38} {:>8} {:>15} {:>10} {:>7} {:>8}", "the UTF-8 check alone", "bytes", "from_utf8 MB/s", "ours MB/s", "ratio", "ns/byte");
     for (name, size) in REALISTIC {
-        check_row(&format!("import script {name}"), &imports::script(SEED, size));
+        check_row(&format!("import script {name}"), imports::script(SEED, size).as_bytes());
     }
     for (name, size) in REALISTIC {
-        check_row(&format!("ASCII {name}"), &"a".repeat(size));
-        check_row(&format!("two bytes each {name}"), &"é".repeat(size / 2));
-        check_row(&format!("four bytes each {name}"), &"🪦".repeat(size / 4));
+        check_row(&format!("ASCII {name}"), "a".repeat(size).as_bytes());
+        check_row(&format!("two bytes each {name}"), "é".repeat(size / 2).as_bytes());
+        check_row(&format!("two bytes each, cut short {name}"), &"é".repeat(size / 2).as_bytes()[..size - 1]);
+        check_row(&format!("four bytes each {name}"), "🪦".repeat(size / 4).as_bytes());
     }
 }
 

@@ -1,5 +1,6 @@
-//! Characters against Rust's standard library: the first bad sequence, the byte-order mark, white space, encoding.
-use crate::host;
+//! Characters against Rust's standard library: the first bad sequence and its class, the byte-order mark, white space, encoding.
+use crate::host::{self, Refusal, Used};
+use crate::question2;
 use crate::say::say;
 
 fn hex(bytes: &[u8]) -> String {
@@ -7,16 +8,26 @@ fn hex(bytes: &[u8]) -> String {
 }
 
 /// Counts comparisons and keeps the first difference.
+#[derive(Default)]
 struct Tally {
     done: u64,
+    cut: u64,
+    barred: u64,
+    other: u64,
     difference: Option<String>,
 }
 
-impl Tally {
-    fn new() -> Self {
-        Self { done: 0, difference: None }
-    }
+/// The number and the figure of a refusal.
+fn refused(answer: Result<Used, Refusal>) -> Option<(u64, u64)> {
+    answer.err().map(|refusal| (refusal.number(), refusal.figure))
+}
 
+/// Tokenising into empty buffers, which a text that is not UTF-8 does not come to.
+fn tokenize(text: &[u8]) -> Result<Used, Refusal> {
+    host::tokenize(text, &mut [], &mut [], &mut [])
+}
+
+impl Tally {
     fn check(&mut self, same: bool, what: impl FnOnce() -> String) -> bool {
         self.done += 1;
         if !same && self.difference.is_none() {
@@ -25,18 +36,38 @@ impl Tally {
         self.difference.is_none()
     }
 
+    /// Question 2, by each call that asks it.
     fn text(&mut self, text: &[u8]) -> bool {
-        let ours = host::first_bad(text);
-        let theirs = std::str::from_utf8(text).err().map(|e| (2, e.valid_up_to() as u64));
-        self.check(ours == theirs, || {
-            format!("first bad sequence of {}: proved {ours:?}, Rust {theirs:?}", hex(&text[..text.len().min(64)]))
+        let theirs = question2::refusal(text);
+        let ours = [Some(host::first_bad(text)), Some(refused(host::measure(text))), theirs.map(|_| refused(tokenize(text)))];
+        self.count(theirs);
+        self.check(ours.into_iter().flatten().all(|answer| answer == theirs), || {
+            let text = hex(&text[..text.len().min(64)]);
+            format!("first bad sequence of {text}: proved {ours:?} (check, measure, tokenise), Rust and order 1 {theirs:?}")
         })
+    }
+
+    fn count(&mut self, theirs: Option<(u64, u64)>) {
+        match theirs {
+            Some((9, _)) => self.cut += 1,
+            Some((10, _)) => self.barred += 1,
+            Some(_) => self.other += 1,
+            None => {}
+        }
+    }
+
+    /// How many texts were of each class.
+    fn classes(&self) -> String {
+        match (self.cut, self.barred, self.other) {
+            (0, 0, 0) => String::new(),
+            (cut, barred, other) => format!(" ({cut} cut, {barred} barred, {other} bad otherwise)"),
+        }
     }
 
     fn report(self, name: &str) -> bool {
         match self.difference {
             None => {
-                say!("{name}: {} compared, equal", self.done);
+                say!("{name}: {} compared, equal{}", self.done, self.classes());
                 true
             }
             Some(text) => {
@@ -49,7 +80,7 @@ impl Tally {
 
 /// Every byte string of up to three bytes.
 fn short_texts() -> Tally {
-    let mut tally = Tally::new();
+    let mut tally = Tally::default();
     tally.text(&[]);
     for length in 1..=3u32 {
         for n in 0..1u32 << (8 * length) {
@@ -70,7 +101,7 @@ const BOUNDS: [u8; 38] = [
 
 /// All four-byte strings over the boundary values.
 fn four_byte_texts() -> Tally {
-    let mut tally = Tally::new();
+    let mut tally = Tally::default();
     for a in BOUNDS {
         for b in BOUNDS {
             for c in BOUNDS {
@@ -87,7 +118,7 @@ fn four_byte_texts() -> Tally {
 
 /// Long texts with each byte damaged in turn.
 fn damaged_texts() -> Tally {
-    let mut tally = Tally::new();
+    let mut tally = Tally::default();
     let mut text = Vec::new();
     for (i, c) in "aé\u{7FF}\u{800}€\u{FFFD}\u{FEFF}\u{10000}🪦\u{10FFFF}\n\"$".chars().cycle().take(700).enumerate() {
         let mut room = [0; 4];
@@ -115,7 +146,7 @@ fn damaged_texts() -> Tally {
 }
 
 fn marks() -> Tally {
-    let mut tally = Tally::new();
+    let mut tally = Tally::default();
     let near = [0x00, 0xBA, 0xBB, 0xBC, 0xBE, 0xBF, 0xC0, 0xEE, 0xEF, 0xF0];
     for a in near {
         for b in near {
@@ -133,7 +164,7 @@ fn marks() -> Tally {
 }
 
 fn white_space() -> Tally {
-    let mut tally = Tally::new();
+    let mut tally = Tally::default();
     for code in (0..=0x11_0100).chain([0x8000_0009, u32::MAX]) {
         let ours = host::is_white(code);
         let theirs = char::from_u32(code).is_some_and(char::is_whitespace);
@@ -144,7 +175,7 @@ fn white_space() -> Tally {
 
 /// Each code point is written between guard bytes, at the end of a buffer, and where it does not fit.
 fn encodings() -> Tally {
-    let mut tally = Tally::new();
+    let mut tally = Tally::default();
     for code in (0..=0x11_0100).chain([0x8000_0041, u32::MAX]) {
         let mut room = [0; 4];
         let theirs: &[u8] = match char::from_u32(code) {

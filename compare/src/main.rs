@@ -11,6 +11,7 @@ mod imports;
 mod lexed;
 mod list;
 mod mixed;
+mod question2;
 mod records;
 mod replay;
 mod say;

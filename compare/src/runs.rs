@@ -4,6 +4,7 @@ use crate::files;
 use crate::host::{self, Refusal};
 use crate::lexed::Lexed;
 use crate::oracle;
+use crate::question2;
 use crate::say::{message, say, Status};
 use crate::scripts;
 use crate::shrink::shrink;
@@ -18,12 +19,12 @@ fn hex(bytes: &[u8]) -> String {
     bytes.iter().map(|b| format!("{b:02X}")).collect::<Vec<_>>().join(" ")
 }
 
-/// The refusal that questions 1 and 2 ask for, by Rust's own check.
+/// The refusal that questions 1 and 2 ask for, by Rust's own check and order 1's words.
 pub fn refusal(script: &[u8]) -> Option<Refusal> {
     if script.len() > LIMIT {
         return Some(Refusal::from_answer(1, script.len() as u64));
     }
-    std::str::from_utf8(script).err().map(|e| Refusal::from_answer(2, e.valid_up_to() as u64))
+    question2::refusal(script).map(|(number, figure)| Refusal::from_answer(number, figure))
 }
 
 fn ours(script: &[u8]) -> Result<Lexed, String> {

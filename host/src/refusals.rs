@@ -44,6 +44,9 @@ refusals! {
     Place 7 "no whole record of a known kind starts at the place", "the place",
         "go on from a place that a reader answered, in the part of the buffer that tokenising used";
     Text 8 "a record's text lies outside its buffer", "its offset", "lend the script and the text buffer that belong to the records";
+    Cut 9 "the script ends in the middle of a character", "the first byte of the first bad sequence", "it was cut short on its way; send it again";
+    Barred 10 "the script holds bytes that no program may write as UTF-8", "the first byte of the first bad sequence",
+        "the program that saved it is at fault; save the script as UTF-8 with another one";
 }
 
 impl RefusalKind {
@@ -87,7 +90,7 @@ impl fmt::Display for Refusal {
     fn fmt(&self, f: &mut fmt::Formatter<'_>) -> fmt::Result {
         let Refusal { kind, figure } = *self;
         let (number, meaning, what, advice) = (kind.number(), kind.meaning(), kind.figure(), kind.advice());
-        write!(f, "refusal {number}, figure {figure}: {meaning} ({what}: {figure}); {advice}")
+        write!(f, "refusal {number}, figure {figure}: {meaning}; {advice} ({what}: {figure})")
     }
 }
 

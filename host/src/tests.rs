@@ -59,8 +59,10 @@ fn refusals_change_nothing() {
     let long = vec![b' '; LIMIT + 1];
     assert_eq!(lex(&long).err(), Some(refusal(1, 1_048_577)));
     assert_eq!(measure(&long), Err(refusal(1, 1_048_577)));
-    assert_eq!(lex(&[0xC3]).err(), Some(refusal(2, 0)));
-    assert_eq!(lex(&[0xEF, 0xBB, 0xBF, b'a', 0xED, 0xA0, 0x80]).err(), Some(refusal(2, 4)));
+    assert_eq!(lex(&[0xC3]).err(), Some(refusal(9, 0)));
+    assert_eq!(lex(&[0xEF, 0xBB, 0xBF, b'a', 0xED, 0xA0, 0x80]).err(), Some(refusal(10, 4)));
+    assert_eq!(measure(&[0xEF, 0xBB]), Err(refusal(9, 0)));
+    assert_eq!(measure(b"a\xC0\x80"), Err(refusal(2, 1)));
     let mut buffers = [[7u8; 100]; 3];
     let [tokens, texts, errors] = &mut buffers;
     assert_eq!(tokenize(b"", &mut tokens[..24], texts, errors), Err(refusal(3, 25)));
@@ -147,7 +149,9 @@ fn token_ends_cover_the_script() {
 #[test]
 fn characters() {
     assert_eq!(first_bad("é".as_bytes()), Ok(()));
-    assert_eq!(first_bad(b"ab\xC3"), Err(refusal(2, 2)));
+    assert_eq!(first_bad(b"ab\xC3"), Err(refusal(9, 2)));
+    assert_eq!(first_bad(b"ab\xC3c"), Err(refusal(2, 2)));
+    assert_eq!(first_bad(b"ab\xF4\x90"), Err(refusal(10, 2)));
     assert_eq!((mark_length(b"\xEF\xBB\xBFa"), mark_length(b"\xEF\xBB"), after_mark(b"\xEF\xBB\xBFa")), (3, 0, &b"a"[..]));
     assert!(is_white(0x3000) && is_white(9) && !is_white(0x200B) && !is_white(u32::MAX));
     let mut buffer = [7; 5];
@@ -186,9 +190,11 @@ fn columns_are_an_editors() {
 fn sentences_name_number_figure_and_advice() {
     for kind in RefusalKind::ALL {
         let sentence = Refusal { kind: *kind, figure: 4711 }.to_string();
-        assert!(sentence.starts_with(&format!("refusal {}, figure 4711: {}", kind.number(), kind.meaning())), "{sentence}");
-        assert!(sentence.ends_with(kind.advice()), "{sentence}");
-        assert!(sentence.matches("4711").count() == 2, "{sentence}");
+        assert!(
+            sentence.starts_with(&format!("refusal {}, figure 4711: {}; {} (", kind.number(), kind.meaning(), kind.advice())),
+            "{sentence}"
+        );
+        assert!(sentence.ends_with(&format!("({}: 4711)", kind.figure())), "{sentence}");
     }
     let words: Vec<String> = errors("\"\\q\"\u{7}").iter().map(LexError::to_string).collect();
     assert!(words[0].starts_with("error 7: ") && words[0].contains("U+0071 q; "), "{words:?}");
@@ -287,7 +293,7 @@ fn unnamed(table: &str) -> Vec<Vec<String>> {
 
 #[test]
 fn errors_and_refusals_are_told_in_the_same_words_everywhere() {
-    assert_eq!((error_rows().len(), refusal_rows().len()), (10, 8));
+    assert_eq!((error_rows().len(), refusal_rows().len()), (10, 10));
     assert_eq!(unnamed("AURA_ERRORS"), error_rows());
     assert_eq!(unnamed("AURA_REFUSALS"), refusal_rows());
     assert_eq!(page_rows(HOSTS_MD, "## Errors"), error_rows());

@@ -134,6 +134,7 @@ c_valgrind() {
 c_build tests/calls.c calls -O2
 c_build examples/listing.c listing -O2
 c_build examples/first.c first -O2
+c_build examples/help_desk.c help_desk -O2
 c_calls calls
 c_headers
 c_library

@@ -31,7 +31,7 @@ compare_archive() {
     wrote "^equal $compare_tree/a\.aura\$"
     wrote "^equal $compare_tree/file-link\$"
     wrote "^equal $compare_tree/below/open\.aura \(open at its end\)\$"
-    wrote "^refused $compare_tree/below/refused\.aura: refusal 2, figure 0: .+; .+"
+    wrote "^refused $compare_tree/below/refused\.aura: refusal 9, figure 0: .+; .+"
     wrote "^refused $compare_tree/below/long\.aura: refusal 1, figure 3000000: .+; .+"
     wrote "^equal $compare_tree/c␛\[31mred\.aura\$"
     if grep -q "$(printf '\033')" "$out/got"; then fail "an escape sequence of a name"; fi

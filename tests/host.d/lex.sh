@@ -190,7 +190,7 @@ names() {
     wrote '^2:1 error 8: .*, begun at line 1, column 14; .+'
     wrote '^open$'
     status 1 ./lex list --names examples/data/row-c3.aura
-    said '^lex: refusal 2, figure 0: .+; .+'
+    said '^lex: refusal 9, figure 0: the script ends in the middle of a character; it was cut short on its way; send it again '
 }
 
 # The clerk's check: each mistake with its place, its line and a caret; refusals; the summary.
@@ -224,6 +224,31 @@ checking() {
     [ "$(head -n 1 "$out/got" | cut -d, -f1)" = "files: 9" ] || fail "--quiet tells more than the summary"
     status 0 ./lex check "$folder/below/val.aura" "$folder/val.listing" - < examples/data/val.aura
     wrote '^files: 3, without mistakes: 3, with mistakes: 0, refused: 0, open at their end: 0$'
+    rm -rf "$folder"
+}
+
+# The help desk tells a script that was cut short from one that an odd program wrote, and from one in another encoding.
+bad_bytes() {
+    local folder=$out/bad
+    rm -rf "$folder"
+    mkdir -p "$folder"
+    printf 'val a = 1\nval b = "M\xC3' > "$folder/cut.aura"
+    printf 'val b = "M\xED\xA0\x80ller"\n' > "$folder/barred.aura"
+    printf 'val b = "M\xFCller"\n' > "$folder/latin1.aura"
+    cp "$folder/cut.aura" "$folder/again.aura"
+    status 1 ./lex check "$folder"
+    silent
+    wrote "^$folder/cut\.aura:2:11: refusal 9, figure 20: the script ends in the middle of a character; it was cut short on its way; send it again \(.+: 20\)$"
+    wrote "^$folder/barred\.aura:1:11: refusal 10, figure 10: the script holds bytes that no program may write as UTF-8; the program that saved it is at fault; .+ \(.+: 10\)$"
+    wrote "^$folder/latin1\.aura:1:11: refusal 2, figure 10: the script is not UTF-8; save the script as UTF-8 \(.+: 10\)$"
+    wrote '^files: 4, without mistakes: 0, with mistakes: 0, refused: 4, open at their end: 0$'
+    [ "$(grep '^  refusal ' "$out/got" | cut -d'(' -f1 | tr -d '\n')" = "  refusal 2: 1   refusal 9: 2   refusal 10: 1 " ] || fail "the refusals are not counted by their numbers"
+    for command in list "list --names" colour "colour --html"; do
+        status 1 ./lex $command "$folder/cut.aura"
+        said '^lex: refusal 9, figure 20: .+; send it again .+'
+        status 1 ./lex $command - < "$folder/barred.aura"
+        said '^lex: refusal 10, figure 10: .+; save the script as UTF-8 with another one .+'
+    done
     rm -rf "$folder"
 }
 
@@ -309,7 +334,7 @@ in_colour() {
     status 0 ./lex colour --colour=always examples/data/open-string.aura
     said '^open: '
     status 1 ./lex colour examples/data/row-c3.aura
-    said '^lex: refusal 2, figure 0: .+'
+    said '^lex: refusal 9, figure 0: .+'
 }
 
 # What is underlined where a script with a mistake ends with line feeds, and line ends of two characters.
@@ -404,6 +429,7 @@ wrong_words
 called_as_commands
 names
 checking
+bad_bytes
 odd_files
 no_further
 terminals

@@ -60,6 +60,29 @@ unreadable() {
     status 2 "$rust/listing" "$out/no such file"
 }
 
+# The help desk's example in C and in Rust: order 1's classes, any other refusal, and what is accepted.
+help_desk() {
+    local program
+    for program in "$out/help_desk" "$rust/help_desk"; do
+        status 0 "$program" < examples/data/val.aura
+        wrote '^the script is accepted$'
+        status 1 "$program" < examples/data/row-c3.aura
+        wrote '^the script ends in the middle of a character; it was cut short on its way; send it again$'
+        wrote '^look at: the line$'
+        status 1 "$program" < examples/data/row-ed-a0-80.aura
+        wrote '^the script holds bytes that no program may write as UTF-8; .+$'
+        wrote "^look at: the sender's program\$"
+        status 1 "$program" < examples/data/not-utf8-late.aura
+        wrote '^the script is not UTF-8; save the script as UTF-8$'
+        wrote '^look at: the script$'
+        status 1 "$program" < /dev/zero
+        wrote '^the script is over 1,048,576 bytes; .+$'
+        status 2 "$program" < examples
+        said '^help_desk: cannot read the script'
+    done
+}
+
 data
 limit
 unreadable
+help_desk

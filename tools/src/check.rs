@@ -28,11 +28,12 @@ struct Tally {
 }
 
 impl Tally {
+    /// Counts a refusal; they stand in the order of their numbers.
     fn refuse(&mut self, kind: RefusalKind) {
         self.refused += 1;
-        match self.refusals.iter_mut().find(|(known, _)| *known == kind) {
-            Some((_, count)) => *count += 1,
-            None => self.refusals.push((kind, 1)),
+        match self.refusals.binary_search_by_key(&kind.number(), |(known, _)| known.number()) {
+            Ok(at) => self.refusals[at].1 += 1,
+            Err(at) => self.refusals.insert(at, (kind, 1)),
         }
     }
 

@@ -7,3 +7,5 @@ pub mod Characters
 pub mod Valids
 pub mod Spaces
 pub mod Texts
+pub mod BadSequences
+pub mod BadBytes

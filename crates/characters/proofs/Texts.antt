@@ -166,7 +166,7 @@ unfolding isUtf8
 utf8-encoded v s h = ap isValid (bad-encoded v s h) ∙ later-valid (width v) (firstBad s)
 
 -- A bad sequence in front makes it not valid.
-not-bad : (s : List ℕ) → firstOf s ≡ Bad → isUtf8 s ≡ true → ⊥
+pub not-bad : (s : List ℕ) → firstOf s ≡ Bad → isUtf8 s ≡ true → ⊥
 unfolding isUtf8 firstBad isValid
 not-bad s e h = false≢true (ap isValid (sym (bad-first s 0 e)) ∙ h)
 

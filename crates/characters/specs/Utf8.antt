@@ -1,7 +1,7 @@
 -- UTF-8 by RFC 3629: what a character is. A text is a list of octets, a character is its code point.
 use mathlib.Core.Path.{_≡_}
 use Prim.Native.Nat.{ℕ, zero, suc, _+_, _-_, _*_, _/_, _%_}
-use mathlib.Core.Bool.{Bool, true, false, _&&_, not}
+use mathlib.Core.Bool.{Bool, true, false, _&&_, _||_, not}
 use mathlib.Core.List.{List, [], _∷_, _++_}
 use lib.Dec.{leb}
 use lib.ListN.{getD, drop}
@@ -115,13 +115,40 @@ isValid (BadAt at) = false
 unfoldable pub isUtf8 : List ℕ → Bool
 isUtf8 s = isValid (firstBad s)
 
--- The refusal of a text that is not UTF-8 (document 01, question 2).
+-- ── The class of a bad sequence (document 02, order 1) ──
+
+-- The refusals of a text that is not UTF-8 (document 01, question 2): cut, barred, and the rest.
 abbrev pub RefusedUtf8 : ℕ
 RefusedUtf8 = 2
 
--- The class of the bad sequence that a text begins with, as the number of the refusal that it leads to: there is one class.
+abbrev pub RefusedCut : ℕ
+RefusedCut = 9
+
+abbrev pub RefusedBarred : ℕ
+RefusedBarred = 10
+
+-- "Cut": "the text ends early and each byte present is allowed in its place by RFC 3629". The whole text is one octet that begins
+-- UTF8-2, UTF8-3 or UTF8-4, two that begin UTF8-3 or UTF8-4, or three that begin UTF8-4.
+unfoldable pub isCut : List ℕ → Bool
+isCut [] = false
+isCut (a ∷ []) = within 0xC2 0xF4 a
+isCut (a ∷ b ∷ []) = within 0xE0 0xF4 a && secondOk a b
+isCut (a ∷ b ∷ c ∷ []) = within 0xF0 0xF4 a && secondOk a b && isTail c
+isCut (a ∷ b ∷ c ∷ d ∷ s) = false
+
+-- "a lead byte E0, ED, F0 or F4": the first octets behind which the second has a range of its own.
+unfoldable pub hasOwnRange : ℕ → Bool
+hasOwnRange a = a is 0xE0 || a is 0xED || a is 0xF0 || a is 0xF4
+
+-- "Barred": such a lead "whose second byte is 80 to BF but outside that lead's range".
+unfoldable pub isBarred : List ℕ → Bool
+isBarred [] = false
+isBarred (a ∷ []) = false
+isBarred (a ∷ b ∷ s) = hasOwnRange a && isTail b && not (secondOk a b)
+
+-- The class of the bad sequence that a text begins with, as the number of the refusal that it leads to.
 unfoldable pub badClass : List ℕ → ℕ
-badClass s = RefusedUtf8
+badClass s = if isCut s then RefusedCut else if isBarred s then RefusedBarred else RefusedUtf8
 
 -- ── Encoding (section 3) ──
 

@@ -34,7 +34,7 @@ use Rattle.lexer.proofs.Places.{places-filled}
 
 -- ── What a yes says ──
 
-got-is-not-refused : (u : Used) (n f : ℕ) → _≡_ {A = Answer Used} (got u) (refused n f) → ⊥
+pub got-is-not-refused : (u : Used) (n f : ℕ) → _≡_ {A = Answer Used} (got u) (refused n f) → ⊥
 got-is-not-refused u n f e = let z : _≡_ {A = ℕ} 0 1 = cc in omega arith
 
 same-got : (u v : Used) → _≡_ {A = Answer Used} (got u) (got v) → u ≡ v

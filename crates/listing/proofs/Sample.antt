@@ -1,7 +1,7 @@
 -- The listings of document 01's samples (specs/Sample.antt): the definitions give what the paper shows. Assumes nothing.
 use mathlib.Core.Path.{_≡_, refl}
 use Rattle.characters.specs.Choice.{within}
-use Rattle.characters.specs.Utf8.{isTail, twoOf, badClass, width, sequence, firstOf, after as afterChar, charsPast, charsOf, encodeChar, encode, checkAfter, checkPast, firstBad}
+use Rattle.characters.specs.Utf8.{isTail, secondOk, twoOf, threeOf, isCut, hasOwnRange, isBarred, badClass, width, sequence, firstOf, after as afterChar, charsPast, charsOf, encodeChar, encode, checkAfter, checkPast, firstBad}
 use Rattle.characters.specs.Space.{isWhite}
 use Rattle.spans.specs.Span.{single, earlier, later, merge}
 use Rattle.rules.specs.Text.{oneOf, isEmpty, sameText, isDigit, isLetter, isIdentStart, isIdentPart, isHexDigit, hexValue}
@@ -22,15 +22,19 @@ use Rattle.listing_fields.specs.Numbers.{decimalIn, decimal, hexDigit, hexOf}
 use Rattle.listing_fields.specs.Fields.{field, spanFields, textField}
 use Rattle.listing_lines.specs.Lines.{headOf, tokenLine, tokenLines, errorLines, closedLine, refusedLine}
 use Rattle.listing.specs.Listing.{answerLines, listing}
-use Rattle.listing.specs.Sample.{SAMPLE-SCRIPT, SAMPLE, BAD-SCRIPT, REFUSED-SAMPLE, LONG-SCRIPT, LONG-SAMPLE}
+use Rattle.listing.specs.Sample.{SAMPLE-SCRIPT, SAMPLE, CUT-SCRIPT, CUT-SAMPLE, BARRED-SCRIPT, BARRED-SAMPLE, LONG-SCRIPT, LONG-SAMPLE}
 
 pub sample : listing SAMPLE-SCRIPT ≡ SAMPLE
 unfolding oneChar isHexDigit hexValue THIRDS twoMarks later after isSpace skip skips skippedLineColumn wordEnd whiteSpace within width isWhite single earlier merge oneOf isEmpty sameText isDigit isLetter isIdentStart isIdentPart next startsWith run KEYWORDS keywordIn lookupKeyword MARKS lookup radix isDigitOrUnderscore fraction exponent decimalKind decimalNumber zeroThen parseNumber parseIdentifierOrKeyword markSpelling markWith markIn parseMark segment segments advance advances segmentSpan tokensOf errorsOf place tokens errors closed sequence firstOf afterChar charsPast charsOf encodeChar encode hasMark markLength afterMark scriptText scriptTokens scriptErrors scriptClosed checkAfter checkPast firstBad needed askUtf8 askText _then_ measureAnswer decimalIn decimal hexDigit hexOf field spanFields textField headOf tokenLine tokenLines errorLines closedLine answerLines listing
 sample = refl
 
-pub refused-sample : listing BAD-SCRIPT ≡ REFUSED-SAMPLE
-unfolding within sequence isTail twoOf firstOf checkAfter checkPast firstBad badClass askUtf8 askText _then_ measureAnswer decimalIn decimal field refusedLine answerLines listing
-refused-sample = refl
+pub cut-sample : listing CUT-SCRIPT ≡ CUT-SAMPLE
+unfolding within sequence isTail twoOf firstOf checkAfter checkPast firstBad isCut badClass askUtf8 askText _then_ measureAnswer decimalIn decimal field refusedLine answerLines listing
+cut-sample = refl
+
+pub barred-sample : listing BARRED-SCRIPT ≡ BARRED-SAMPLE
+unfolding within sequence isTail secondOk threeOf firstOf checkAfter checkPast firstBad isCut hasOwnRange isBarred badClass askUtf8 askText _then_ measureAnswer decimalIn decimal field refusedLine answerLines listing
+barred-sample = refl
 
 pub long-sample : listing LONG-SCRIPT ≡ LONG-SAMPLE
 unfolding listing

@@ -1,4 +1,4 @@
--- The listings that document 01 shows: its sample, a refusal, and a script that is too long.
+-- The listings that document 01 shows: its sample, two refusals, and a script that is too long.
 use mathlib.Core.List.{List, [], _∷_, _++_}
 use Prim.Native.Nat.{ℕ, _+_}
 use lib.ListN.{replicate}
@@ -20,12 +20,18 @@ SAMPLE =
     ++ (ascii "T 124 7 7 1 8 1 8 -" ++ ending)
     ++ (ascii "closed" ++ ending)
 
--- "C3; ED A0 80 | 2 figure 0; 2 figure 0"
-abbrev pub BAD-SCRIPT : List ℕ
-BAD-SCRIPT = 0xC3 ∷ []
+-- "C3; ED A0 80", of which order 1 says: "document 01's row now gives 9 for C3 and 10 for ED A0 80". The figure is 0 for both.
+abbrev pub CUT-SCRIPT : List ℕ
+CUT-SCRIPT = 0xC3 ∷ []
 
-abbrev pub REFUSED-SAMPLE : List ℕ
-REFUSED-SAMPLE = ascii "refused 2 0" ++ ending
+abbrev pub CUT-SAMPLE : List ℕ
+CUT-SAMPLE = ascii "refused 9 0" ++ ending
+
+abbrev pub BARRED-SCRIPT : List ℕ
+BARRED-SCRIPT = 0xED ∷ 0xA0 ∷ 0x80 ∷ []
+
+abbrev pub BARRED-SAMPLE : List ℕ
+BARRED-SAMPLE = ascii "refused 10 0" ++ ending
 
 -- One byte more than a listing is made for: spaces.
 abbrev pub LONG-SCRIPT : List ℕ

@@ -1,5 +1,5 @@
 -- Laws of the questions before the answer. Assumes nothing.
-use mathlib.Core.Path.{_≡_, refl}
+use mathlib.Core.Path.{_≡_, refl, sym, _∙_, ap}
 use mathlib.Core.Bool.{Bool, true, false, _&&_, not}
 use mathlib.Core.List.{List}
 use Prim.Native.Nat.{ℕ, _≤_, _<_}
@@ -19,6 +19,9 @@ use Rattle.questions.specs.Questions.{askUtf8, askText, askRoom}
 pub no-is-not-yes : (n f : ℕ) → No n f ≡ Yes → ⊥
 no-is-not-yes n f e = let z : _≡_ {A = ℕ} 0 1 = cc in omega arith
 
+same-no : (n p m q : ℕ) → No n p ≡ No m q → (n ≡ m) × (p ≡ q)
+same-no n p m q e = (cc, cc)
+
 -- ── Questions 1 and 2 ──
 
 module _ (s : List ℕ) where
@@ -33,6 +36,15 @@ module _ (s : List ℕ) where
   pub text-bad : (n p : ℕ) → length s ≤ LIMIT → firstBad s ≡ BadAt p → n ≡ badClass (drop p s) → No n p ≡ askText s
   unfolding askText askUtf8
   text-bad n p h e k = rw (le-leb (length s) LIMIT h, e, k)
+
+  -- A refused script within the limit has a first bad sequence, which the number and the figure tell.
+  pub no-bad : (n p : ℕ) → length s ≤ LIMIT → askText s ≡ No n p → (firstBad s ≡ BadAt p) × (n ≡ badClass (drop p s))
+  unfolding askText askUtf8
+  no-bad n p h e = go (firstBad s) refl (sym (rw (le-leb (length s) LIMIT h)) ∙ e)
+    where
+      go : (x : Checked) → firstBad s ≡ x → askUtf8 s x ≡ No n p → (firstBad s ≡ BadAt p) × (n ≡ badClass (drop p s))
+      go Valid f k = absurd (no-is-not-yes n p (sym k))
+      go (BadAt q) f k = let x = same-no _ q n p k in (f ∙ ap BadAt (x .1), sym (x .0) ∙ ap (λ (i : ℕ). badClass (drop i s)) (x .1))
 
   -- A script that passes is an accepted one.
   pub yes-accepted : askText s ≡ Yes → accepted s ≡ true

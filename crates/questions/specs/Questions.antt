@@ -13,7 +13,7 @@ use Rattle.room.specs.declared.Used.{Used}
 use Rattle.questions.specs.declared.Asked.{Asked}
 use Rattle.questions.specs.declared.Asked.the-variants.{Yes, No}
 
--- The number of each question; that of question 2 is `badClass`.
+-- The number of each question; question 2 has one for each class of bad sequence, `badClass`.
 abbrev pub RefusedLength : ℕ
 RefusedLength = 1
 

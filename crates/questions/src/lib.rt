@@ -5,7 +5,7 @@ use characters::Checked;
 use room::Used;
 use rules::LIMIT;
 
-// The numbers of the questions, as include/aura_lexer.h names them. That of question 2 comes with the bad sequence.
+// The numbers of the questions, as include/aura_words.h names them. Those of question 2 come with the bad sequence.
 pub const REFUSED_LENGTH: u64 = 1;
 
 pub const REFUSED_TOKENS: u64 = 3;
