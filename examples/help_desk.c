@@ -4,9 +4,10 @@
 
 #include <stdio.h>
 
-static const char *next_step(uint64_t number) {
+/* Where the fault is most likely to be. */
+static const char *look_at(uint64_t number) {
     switch (number) {
-    case AURA_REFUSED_CUT: return "the line";
+    case AURA_REFUSED_CUT: return "the connection";
     case AURA_REFUSED_BARRED: return "the sender's program";
     default: return "the script";
     }
@@ -24,7 +25,7 @@ int main(void) {
     if (number == AURA_YES) {
         puts("the script is accepted");
     } else {
-        printf("%s; %s\nlook at: %s\n", aura_refusal_meaning(number), aura_refusal_advice(number), next_step(number));
+        printf("%s; %s\nlook at: %s\n", aura_refusal_meaning(number), aura_refusal_advice(number), look_at(number));
     }
     if (fflush(stdout) != 0) {
         fputs("help_desk: cannot write to standard output\n", stderr);

@@ -4,9 +4,10 @@ use aura_lexer::{measure, RefusalKind, LIMIT};
 use std::io::Read;
 use std::process::ExitCode;
 
-fn next_step(kind: RefusalKind) -> &'static str {
+/// Where the fault is most likely to be.
+fn look_at(kind: RefusalKind) -> &'static str {
     match kind {
-        RefusalKind::Cut => "the line",
+        RefusalKind::Cut => "the connection",
         RefusalKind::Barred => "the sender's program",
         _ => "the script",
     }
@@ -25,7 +26,7 @@ fn main() -> ExitCode {
         }
         Err(refusal) => {
             let kind = refusal.kind;
-            println!("{}; {}\nlook at: {}", kind.meaning(), kind.advice(), next_step(kind));
+            println!("{}; {}\nlook at: {}", kind.meaning(), kind.advice(), look_at(kind));
             ExitCode::FAILURE
         }
     }

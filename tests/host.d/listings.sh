@@ -68,7 +68,7 @@ help_desk() {
         wrote '^the script is accepted$'
         status 1 "$program" < examples/data/row-c3.aura
         wrote '^the script ends in the middle of a character; it was cut short on its way; send it again$'
-        wrote '^look at: the line$'
+        wrote '^look at: the connection$'
         status 1 "$program" < examples/data/row-ed-a0-80.aura
         wrote '^the script holds bytes that no program may write as UTF-8; .+$'
         wrote "^look at: the sender's program\$"

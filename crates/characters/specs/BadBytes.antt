@@ -44,7 +44,7 @@ pub record Classes (s : List ℕ) : Type 0 where
 
 -- ── What "cut" means ──
 
--- There are octets that make the text UTF-8 if they are put behind it.
+-- There are octets that make the text UTF-8 if they are put behind it. (In a list that is UTF-8 no number is above F4, so `more` is octets.)
 pub record Completable (s : List ℕ) : Type 0 where
   pub more : List ℕ
   pub completes : isUtf8 (s ++ more) ≡ true
