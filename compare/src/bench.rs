@@ -337,6 +337,7 @@ fn check_alone() {
     say!("\n{:<38} {:>8} {:>15} {:>10} {:>7} {:>8}", "the UTF-8 check alone", "bytes", "from_utf8 MB/s", "ours MB/s", "ratio", "ns/byte");
     for (name, size) in REALISTIC {
         check_row(&format!("import script {name}"), imports::script(SEED, size).as_bytes());
+        check_row(&format!("mixed script {name}"), mixed::script(SEED, size).as_bytes());
     }
     for (name, size) in REALISTIC {
         check_row(&format!("ASCII {name}"), "a".repeat(size).as_bytes());

@@ -12,6 +12,7 @@ use Rattle.characters.specs.Choice.{_is_, within}
 use Rattle.characters.specs.Utf8.{charsOf, firstBad, isUtf8, isScalar, width, encodeChar, encode}
 use Rattle.byte_order_mark.specs.Mark.{hasMark, markLength, afterMark}
 use Rattle.characters.proofs.Choice.{and-both}
+use Rattle.characters.proofs.Buffers.{part-from}
 use Rattle.characters.proofs.Decoding.{octet-there}
 use Rattle.characters.proofs.Texts.{later, chars-nil, chars-encoded, bad-encoded, utf8-encoded, valid-encode, chars-append, text-ind}
 use Rattle.characters.proofs.Characters.{chars-none}
@@ -42,10 +43,6 @@ mark-length-inside s = go (hasMark s) refl
     go : (b : Bool) → hasMark s ≡ b → markLength s ≤ length s
     go true e = omega (arith, mark-size s e, mark-length-yes s e)
     go false e = omega (arith, mark-length-no s e)
-
--- What the part of a slice from a place on holds.
-pub part-from : (k : ℕ) (s : List ℕ) → take (length s - k) (drop k s) ≡ drop k s
-part-from k s = take-all (length s - k) (drop k s) (omega (arith, length-drop k s))
 
 pub after-mark-part : (s : List ℕ) (n : ℕ) → n ≡ markLength s → take (length s - n) (drop n s) ≡ afterMark s
 unfolding afterMark

@@ -100,15 +100,15 @@ other-left (a ∷ s) e uncut free =
 
 -- The class that a test leads to, and back.
 module _ (s : List ℕ) where
-  class-cut : isCut s ≡ true → badClass s ≡ RefusedCut
+  pub class-cut : isCut s ≡ true → badClass s ≡ RefusedCut
   unfolding badClass
   class-cut e = rw e
 
-  class-barred : isCut s ≡ false → isBarred s ≡ true → badClass s ≡ RefusedBarred
+  pub class-barred : isCut s ≡ false → isBarred s ≡ true → badClass s ≡ RefusedBarred
   unfolding badClass
   class-barred e f = rw (e, f)
 
-  class-other : isCut s ≡ false → isBarred s ≡ false → badClass s ≡ RefusedUtf8
+  pub class-other : isCut s ≡ false → isBarred s ≡ false → badClass s ≡ RefusedUtf8
   unfolding badClass
   class-other e f = rw (e, f)
 

@@ -20,7 +20,8 @@ noTail (b ∷ s) = not (isTail b)
 unfoldable pub isStray : ℕ → Bool
 isStray a = within 0x80 0xC1 a || leb 0xF5 a
 
--- Behind a first octet `a`, the second, third or fourth is no tail, and those before it are allowed.
+-- Behind a first octet `a`, the second, third or fourth is there and is no tail, and those before it are allowed (one that the text lacks
+-- is given as 0, which is never allowed).
 unfoldable pub badSecond : ℕ → List ℕ → Bool
 badSecond a s = within 0xC2 0xF4 a && noTail s
 

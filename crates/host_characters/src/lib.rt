@@ -21,7 +21,7 @@ pub fn first_bad(text: &[u8], figure: &mut u64) -> u64
         return 0;
     };
     *figure = at as u64;
-    utf8_check::bad_class(text, at)
+    utf8_classes::bad_class(text, at)
 }
 
 // The bytes of the byte-order mark that the text begins with: 3 or 0.

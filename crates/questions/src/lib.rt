@@ -30,7 +30,7 @@ pub fn ask_text(script: &[u8]) -> Asked
     let Checked::BadAt(at) = utf8_check::first_bad(script) else {
         return Asked::Yes;
     };
-    Asked::No(utf8_check::bad_class(script, at), at as u64)
+    Asked::No(utf8_classes::bad_class(script, at), at as u64)
 }
 
 // Questions 3, 4 and 5, for buffers of these sizes.

@@ -1,13 +1,13 @@
--- `utf8_check::bad_class` meets its contract. Assumes nothing.
+-- `utf8_classes::bad_class` meets its contract. Assumes nothing.
 use mathlib.Core.Path.{sym, _∙_}
 use denote.Ref.{now}
 use borrow.Author.Needs.{needs}
-use Rattle.utf8_check.proofs.Classes.{class-past, class-cut, class-barred, class-other}
-use Rattle.utf8_check.proofs.bad_class.Statement.{statement}
-use Rattle.utf8_check.proofs.bad_class.Tie as tie
+use Rattle.utf8_classes.proofs.Classes.{at-end, at-cut, at-barred, at-other}
+use Rattle.utf8_classes.proofs.bad_class.Statement.{statement}
+use Rattle.utf8_classes.proofs.bad_class.Tie as tie
 
 returns : tie.Need-returns
-returns c = class-past _ _ (c .if1 .taken)
+returns c = at-end _ _ (c .if1 .taken)
 
 sub-rest : tie.Need-sub-rest
 sub-rest c = search needs
@@ -24,7 +24,7 @@ is-cut-requires c κs = search needs
 returns-2 : tie.Need-returns-2
 returns-2 c =
     let a = c .before .before .before .before .before .args in
-    class-cut (now (a .text)) (a .at) (sym (c .before .is-cut .ensures) ∙ c .if2 .taken)
+    at-cut (now (a .text)) (a .at) (sym (c .before .is-cut .ensures) ∙ c .if2 .taken)
 
 is-barred-requires : tie.Need-is-barred-requires
 is-barred-requires c κs = search needs
@@ -34,14 +34,14 @@ returns-3 c =
     let b = c .before in
     let k = b .before in
     let a = k .before .before .before .before .before .args in
-    class-barred (now (a .text)) (a .at) (sym (k .before .is-cut .ensures) ∙ k .if2 .left) (sym (b .is-barred .ensures) ∙ c .if3 .taken)
+    at-barred (now (a .text)) (a .at) (sym (k .before .is-cut .ensures) ∙ k .if2 .left) (sym (b .is-barred .ensures) ∙ c .if3 .taken)
 
 returns-4 : tie.Need-returns-4
 returns-4 c =
     let b = c .before in
     let k = b .before in
     let a = k .before .before .before .before .before .args in
-    class-other (now (a .text)) (a .at) (sym (k .before .is-cut .ensures) ∙ k .if2 .left) (sym (b .is-barred .ensures) ∙ c .if3 .left)
+    at-other (now (a .text)) (a .at) (sym (k .before .is-cut .ensures) ∙ k .if2 .left) (sym (b .is-barred .ensures) ∙ c .if3 .left)
 
 pub bad-class-spec : {M : Type 1} → statement M
 bad-class-spec =

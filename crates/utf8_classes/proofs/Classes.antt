@@ -1,13 +1,14 @@
 -- Laws of the classes of bad sequences, by the number of octets. Assumes nothing.
-use mathlib.Core.Path.{_≡_, refl}
+use mathlib.Core.Path.{_≡_, refl, sym}
 use mathlib.Core.Bool.{true, false, _&&_, not}
 use mathlib.Core.List.{List, [], _∷_}
 use Prim.Native.Nat.{ℕ, _-_, _≤_, _<_}
 use native.Mathlib.Omega.{arith}
-use lib.ListN.{length, getD, take, drop, length-drop, drop-of-length-le}
-use lib.Seq.{take-all}
+use lib.ListN.{length, getD, take, drop, drop-of-length-le}
 use Rattle.characters.specs.Choice.{within}
 use Rattle.characters.specs.Utf8.{isTail, secondOk, isCut, hasOwnRange, isBarred, badClass, RefusedUtf8, RefusedCut, RefusedBarred}
+use Rattle.characters.proofs.Buffers.{part-from}
+use Rattle.characters.proofs.BadBytes.{class-cut, class-barred, class-other}
 
 -- ── Cut ──
 
@@ -56,28 +57,21 @@ barred-two [] h = absurd (omega arith)
 barred-two (a ∷ []) h = absurd (omega arith)
 barred-two (a ∷ b ∷ s) h = refl
 
--- ── The class at a place ──
+-- ── The class at a place, by the part of the text from there on ──
 
 module _ (s : List ℕ) (at : ℕ) where
-  -- The part of a text that begins at the place.
   abbrev part : List ℕ
   part = take (length s - at) (drop at s)
 
-  part-is : part ≡ drop at s
-  part-is = take-all (length s - at) (drop at s) (omega (arith, length-drop at s))
-
-  pub class-past : length s ≤ at → RefusedUtf8 ≡ badClass (drop at s)
+  pub at-end : length s ≤ at → RefusedUtf8 ≡ badClass (drop at s)
   unfolding badClass isCut isBarred
-  class-past h = rw (drop-of-length-le s h)
+  at-end h = rw (drop-of-length-le s h)
 
-  pub class-cut : isCut part ≡ true → RefusedCut ≡ badClass (drop at s)
-  unfolding badClass
-  class-cut e = rw (← part-is, e)
+  pub at-cut : isCut part ≡ true → RefusedCut ≡ badClass (drop at s)
+  at-cut e = rw (← part-from at s) (sym (class-cut part e))
 
-  pub class-barred : isCut part ≡ false → isBarred part ≡ true → RefusedBarred ≡ badClass (drop at s)
-  unfolding badClass
-  class-barred e f = rw (← part-is, e, f)
+  pub at-barred : isCut part ≡ false → isBarred part ≡ true → RefusedBarred ≡ badClass (drop at s)
+  at-barred e f = rw (← part-from at s) (sym (class-barred part e f))
 
-  pub class-other : isCut part ≡ false → isBarred part ≡ false → RefusedUtf8 ≡ badClass (drop at s)
-  unfolding badClass
-  class-other e f = rw (← part-is, e, f)
+  pub at-other : isCut part ≡ false → isBarred part ≡ false → RefusedUtf8 ≡ badClass (drop at s)
+  at-other e f = rw (← part-from at s) (sym (class-other part e f))

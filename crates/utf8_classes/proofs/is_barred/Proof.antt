@@ -1,9 +1,9 @@
--- `utf8_check::is_barred` meets its contract. Assumes nothing.
+-- `utf8_classes::is_barred` meets its contract. Assumes nothing.
 use mathlib.Core.Path.{sym}
-use Rattle.utf8_check.proofs.Classes.{barred-short, barred-two}
+use Rattle.utf8_classes.proofs.Classes.{barred-short, barred-two}
 use borrow.Author.Needs.{needs}
-use Rattle.utf8_check.proofs.is_barred.Statement.{statement}
-use Rattle.utf8_check.proofs.is_barred.Tie as tie
+use Rattle.utf8_classes.proofs.is_barred.Statement.{statement}
+use Rattle.utf8_classes.proofs.is_barred.Tie as tie
 
 returns : tie.Need-returns
 returns c = sym (barred-short _ (c .if1 .taken))

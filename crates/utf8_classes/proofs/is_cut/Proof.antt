@@ -1,9 +1,9 @@
--- `utf8_check::is_cut` meets its contract. Assumes nothing.
+-- `utf8_classes::is_cut` meets its contract. Assumes nothing.
 use mathlib.Core.Path.{sym, _∙_}
-use Rattle.utf8_check.proofs.Classes.{cut-one, cut-two, cut-three, cut-never}
+use Rattle.utf8_classes.proofs.Classes.{cut-one, cut-two, cut-three, cut-never}
 use borrow.Author.Needs.{needs}
-use Rattle.utf8_check.proofs.is_cut.Statement.{statement}
-use Rattle.utf8_check.proofs.is_cut.Tie as tie
+use Rattle.utf8_classes.proofs.is_cut.Statement.{statement}
+use Rattle.utf8_classes.proofs.is_cut.Tie as tie
 
 shared-slice-read-within : tie.Need-shared-slice-read-within
 shared-slice-read-within c = search needs
