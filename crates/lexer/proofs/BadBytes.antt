@@ -15,7 +15,7 @@ use Rattle.room.specs.declared.Used.{Used}
 use Rattle.room.specs.Needed.{needed}
 use Rattle.questions.specs.declared.Asked.{Asked}
 use Rattle.questions.specs.declared.Asked.the-variants.{Yes, No}
-use Rattle.questions.specs.Questions.{askText, askRoom}
+use Rattle.questions.specs.Questions.{askText}
 use Rattle.questions.proofs.Questions.{no-bad, yes-accepted}
 use Rattle.lexer.specs.Tokenize.{_then_, measureAnswer, tokenizeAnswer}
 use Rattle.lexer.proofs.Back.{got-is-not-refused}
