@@ -30,9 +30,9 @@ extern "C" {
 #endif
 
 /* The version of the calls, the headers and the crate for Rust. */
-#define AURA_VERSION "0.3.0"
+#define AURA_VERSION "0.4.0"
 #define AURA_VERSION_MAJOR 0
-#define AURA_VERSION_MINOR 3
+#define AURA_VERSION_MINOR 4
 #define AURA_VERSION_PATCH 0
 
 /* The commit of onlynight/AuraLang whose lexer this one is a translation of. */
@@ -48,6 +48,9 @@ typedef char aura_size_has_64_bits[sizeof(size_t) == 8 ? 1 : -1];
 #define AURA_TOKENS_ROOM(n) (33 * ((size_t)(n) + 1))
 #define AURA_TEXTS_ROOM(n) (2 * (size_t)(n) + 2)
 #define AURA_ERRORS_ROOM(n) (29 * (size_t)(n))
+
+/* A print buffer of this size is never too small for a script of n bytes. */
+#define AURA_PRINT_ROOM(n) (6 * (size_t)(n))
 
 /* Records. The kind is one byte, all other numbers are 32-bit little-endian. Offsets count bytes after the script's byte-order mark.
  * Lines and columns count from 1, columns in characters; behind a line feed skipped as white space the record's column is one more
@@ -74,6 +77,12 @@ enum {
     AURA_USED_COUNT = 4,  /* the number of tokens, EOF counted */
     AURA_USED_CLOSED = 5, /* 1: nothing is open at the script's end; 0: something is */
     AURA_USED_SLOTS = 6
+};
+
+/* aura_print. */
+enum {
+    AURA_PRINT_BYTES = 1, /* bytes written into the print buffer */
+    AURA_PRINT_SLOTS = 2
 };
 
 /* aura_next_token; aura_consume with one slot more; aura_match_kind with the place and one slot; aura_next_error. */
@@ -109,6 +118,14 @@ uint64_t aura_tokenize(const uint8_t *script, size_t script_length,
 
 /* What tokenising would answer. It writes the answer only. Refusals 1, 2, 9 and 10. */
 uint64_t aura_measure(const uint8_t *script, size_t script_length, uint64_t answer[AURA_USED_SLOTS]);
+
+/* Writes the office print of a script (document 02, order 2) into a lent buffer: the same tokens in one layout, UTF-8 without a
+ * byte-order mark. Bytes beyond those written keep. An empty script, or one of comments alone, is printed as no bytes. Refusals, the
+ * first that holds: 1; 2, 9 or 10; 11 where the script has an error; 12 where the buffer is too small. So a call with an empty buffer
+ * tells the bytes needed. A print may be over AURA_LIMIT; only one that is not can be lexed again. */
+uint64_t aura_print(const uint8_t *script, size_t script_length,
+                    uint8_t *print, size_t print_length,
+                    uint64_t answer[AURA_PRINT_SLOTS]);
 
 /* The token record at a place. At EOF the next place is the same place. Refusal 7. */
 uint64_t aura_next_token(const uint8_t *tokens, size_t tokens_length, size_t place, uint64_t answer[AURA_TOKEN_SLOTS]);

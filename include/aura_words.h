@@ -22,7 +22,9 @@
     X(7, PLACE, "no whole record of a known kind starts at the place", "the place", "go on from a place that a reader answered, in the part of the buffer that tokenising used") \
     X(8, TEXT, "a record's text lies outside its buffer", "its offset", "lend the script and the text buffer that belong to the records") \
     X(9, CUT, "the script ends in the middle of a character", "the first byte of the first bad sequence", "it was cut short on its way; send it again") \
-    X(10, BARRED, "the script holds bytes that no program may write as UTF-8", "the first byte of the first bad sequence", "the program that saved it is at fault; save the script as UTF-8 with another one")
+    X(10, BARRED, "the script holds bytes that no program may write as UTF-8", "the first byte of the first bad sequence", "the program that saved it is at fault; save the script as UTF-8 with another one") \
+    X(11, MISTAKE, "the script has a mistake", "where the first one recorded starts, in bytes after the byte-order mark", "list its mistakes, mend them, and print it again") \
+    X(12, PRINT, "the print buffer is too small", "the bytes needed", "lend a print buffer of at least that size")
 
 /* The mistakes that a script has. The records of 1 and 7 have the character's code point. */
 #define AURA_ERRORS(X) \
@@ -37,7 +39,7 @@
     X(9, CHAR_LITERAL, "a character literal without its closing quote", "close it with ' after one character, or use \" for a string") \
     X(10, DOC_COMMENT, "a doc comment without its end", "close it with */")
 
-/* The numbers that calls answer: AURA_YES, AURA_REFUSED_LENGTH, .. , AURA_REFUSED_BARRED. */
+/* The numbers that calls answer: AURA_YES, AURA_REFUSED_LENGTH, .. , AURA_REFUSED_PRINT. */
 #define AURA_ROW(number, name, meaning, figure, advice) AURA_REFUSED_##name = number,
 enum { AURA_YES = 0, AURA_REFUSALS(AURA_ROW) };
 #undef AURA_ROW

@@ -17,7 +17,8 @@
 
 static int done, failed;
 static uint64_t slots[SLOTS];
-static uint8_t tokens[33 * (N + 1)], texts[2 * N + 2], errors[29 * N];
+static uint8_t tokens[33 * (N + 1)], texts[2 * N + 2], errors[29 * N], printed[N];
+static const uint8_t zeros[AURA_LIMIT + 1] = {0};
 
 #define CHECK(held) check((held), #held, __LINE__)
 static void check(int held, const char *what, int line) {
@@ -76,7 +77,6 @@ static void refused_scripts(void) {
     CHECK(refused(tokenize("'a'", 3, N, 0, 0), AURA_REFUSED_TEXTS, 1));
     CHECK(refused(tokenize("''", 2, N, N, 24), AURA_REFUSED_ERRORS, 25));
     CHECK(all_guard(tokens, 0, sizeof tokens) && all_guard(texts, 0, sizeof texts) && all_guard(errors, 0, sizeof errors));
-    static const uint8_t zeros[AURA_LIMIT + 1] = {0};
     CHECK(refused(aura_measure(zeros, AURA_LIMIT + 1, fresh()), AURA_REFUSED_LENGTH, AURA_LIMIT + 1));
     CHECK(aura_measure(zeros, AURA_LIMIT, fresh()) == AURA_YES && slots[AURA_USED_ERRORS] == AURA_ERRORS_ROOM(AURA_LIMIT));
 }
@@ -243,6 +243,57 @@ static void refused_texts(void) {
     CHECK(text.bytes != NULL && text.length == 0);
 }
 
+/* Scripts and their prints, by the words of order 2. */
+static const struct sample { const char *script, *print; } samples[] = {
+    {"val a=1", "val a = 1"}, {"\"a$b\"c", "\"a$b\" c"}, {"\"\"\"x\"y\"\"\"", "\"x\\\"y\""}, {"a:=b", "a := b"},
+    {"\"$a\\uD800b\"", "\"$a\\u0062\""}, {"\"$a\\uD800$b\"", "\"$a\\uD800$b\""}, {"\"a$$b\"", "\"a\\u0024$b\""},
+    {"${a b}", "${}"}, {"/***/", "/// \n"}, {"'\\uD800'", "'\\uD800'"}, {"'\\'''\\n'", "'\\'' '\\n'"},
+    {"\"$a\\u005F\"", "\"$a\\u005f\""}, {"/** d\n * e */a", "/**\n* d\n* e\n*/\na"}, {"a/// d\n// c", "a /// d\n"},
+    {"\xEF\xBB\xBF\xC2\xA0'\xC3\xA9'", "'\xC3\xA9'"}, {"", ""}, {"// c\n/* d */", ""}
+};
+
+/* Prints into the front of a buffer of guard bytes. */
+static uint64_t print_into(const char *script, size_t length, size_t size) {
+    memset(printed, GUARD, sizeof printed);
+    return aura_print((const uint8_t *)script, length, printed, size, fresh());
+}
+
+/* Whether a script is refused with this number and figure, and every byte of the buffer keeps. */
+static int print_refused(const char *script, size_t size, uint64_t number, uint64_t figure) {
+    return refused(print_into(script, strlen(script), size), number, figure) && all_guard(printed, 0, sizeof printed);
+}
+
+/* Whether a script is printed with a buffer of this size, and the bytes beyond its print keep. */
+static int is_printed(const char *script, size_t size, const char *print) {
+    size_t need = strlen(print);
+    return yes(print_into(script, strlen(script), size), AURA_PRINT_SLOTS) && slots[AURA_PRINT_BYTES] == need
+        && memcmp(printed, print, need) == 0 && all_guard(printed, need, sizeof printed);
+}
+
+/* Each print in buffers of every size, and printed again. */
+static void prints(void) {
+    for (size_t i = 0; i < sizeof samples / sizeof samples[0]; i++) {
+        const char *script = samples[i].script, *print = samples[i].print;
+        size_t need = strlen(print);
+        for (size_t size = 0; size < need; size++) CHECK(print_refused(script, size, AURA_REFUSED_PRINT, need));
+        for (size_t size = need; size <= N; size++) CHECK(is_printed(script, size, print));
+        CHECK(need <= AURA_PRINT_ROOM(strlen(script)) && is_printed(print, need, print));
+    }
+}
+
+/* The questions in their order: most of these scripts could also be refused with what comes later. The figure of 11 is the start of
+ * the first error recorded, without the mark, and not that of the first in the script. */
+static void refused_prints(void) {
+    CHECK(refused(aura_print(zeros, AURA_LIMIT + 1, printed, 0, fresh()), AURA_REFUSED_LENGTH, AURA_LIMIT + 1));
+    CHECK(refused(aura_print(zeros, AURA_LIMIT, printed, 0, fresh()), AURA_REFUSED_MISTAKE, 0));
+    CHECK(print_refused("\a\xC3", 0, AURA_REFUSED_CUT, 1) && print_refused("\xEF\xBB\xBF\a\xC3", N, AURA_REFUSED_CUT, 4));
+    CHECK(print_refused("\a\xED\xA0\x80", 0, AURA_REFUSED_BARRED, 1) && print_refused("\a\xFF", N, AURA_REFUSED_UTF8, 1));
+    CHECK(print_refused("''", 0, AURA_REFUSED_MISTAKE, 2) && print_refused("''", N, AURA_REFUSED_MISTAKE, 2));
+    CHECK(print_refused("\xEF\xBB\xBF" "a \a \a", N, AURA_REFUSED_MISTAKE, 2));
+    CHECK(print_refused("\"\\q\n", N, AURA_REFUSED_MISTAKE, 2));
+    CHECK(print_refused("a", 0, AURA_REFUSED_PRINT, 1));
+}
+
 #define NUMBER(number, name, spelling) number,
 #define CONSTANT(number, name, spelling) AURA_KIND_##name,
 
@@ -271,12 +322,12 @@ static int said(const char *words) {
 static void words(void) {
     static const uint64_t refusals[] = {AURA_REFUSED_LENGTH, AURA_REFUSED_UTF8, AURA_REFUSED_TOKENS, AURA_REFUSED_TEXTS,
                                         AURA_REFUSED_ERRORS, AURA_REFUSED_KIND, AURA_REFUSED_PLACE, AURA_REFUSED_TEXT,
-                                        AURA_REFUSED_CUT, AURA_REFUSED_BARRED};
+                                        AURA_REFUSED_CUT, AURA_REFUSED_BARRED, AURA_REFUSED_MISTAKE, AURA_REFUSED_PRINT};
     static const uint64_t mistakes[] = {AURA_ERROR_CHARACTER, AURA_ERROR_COMMENT, AURA_ERROR_RAW_STRING, AURA_ERROR_STRING_END,
                                         AURA_ERROR_STRING_LINE, AURA_ERROR_UNICODE, AURA_ERROR_ESCAPE, AURA_ERROR_INTERPOLATION,
                                         AURA_ERROR_CHAR_LITERAL, AURA_ERROR_DOC_COMMENT};
-    static const uint64_t unused[] = {0, 11, 257, UINT64_MAX};
-    for (uint64_t i = 1; i <= 10; i++) {
+    static const uint64_t unused[] = {0, 13, 257, UINT64_MAX};
+    for (uint64_t i = 1; i <= 12; i++) {
         CHECK(refusals[i - 1] == i);
         CHECK(said(aura_refusal_meaning(i)) && said(aura_refusal_figure(i)) && said(aura_refusal_advice(i)));
     }
@@ -289,6 +340,7 @@ static void words(void) {
         CHECK(aura_refusal_meaning(number) == NULL && aura_refusal_figure(number) == NULL && aura_refusal_advice(number) == NULL);
         CHECK(aura_error_meaning(number) == NULL && aura_error_advice(number) == NULL);
     }
+    CHECK(aura_error_meaning(11) == NULL && aura_error_advice(11) == NULL);
     CHECK(strcmp(aura_refusal_figure(AURA_REFUSED_LENGTH), "its length") == 0);
     CHECK(strcmp(aura_error_meaning(AURA_ERROR_UNICODE), "\x5Cu without four hexadecimal digits") == 0);
     CHECK(strcmp(aura_error_advice(AURA_ERROR_DOC_COMMENT), "close it with *" "/") == 0);
@@ -313,6 +365,8 @@ int main(void) {
     token_texts(SCRIPT);
     token_texts(MARK SCRIPT);
     refused_texts();
+    prints();
+    refused_prints();
     kinds();
     words();
     version();

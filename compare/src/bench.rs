@@ -1,4 +1,6 @@
 //! The speed of the original and of the proved lexer, in one run on the same inputs. Speed is told, never tested.
+mod prints;
+
 use crate::check::{self, largest};
 use crate::files;
 use crate::host;
@@ -393,16 +395,25 @@ fn ratios(kind: &Kind, rows: &[Row]) {
     say!("ratio, {} scripts: {most:.2} largest, {exact:.2} exactly fitting", kind.name);
 }
 
+/// The print, beside tokenising. `short` times it on import scripts only.
+fn prints(short: bool, buffers: &mut Buffers) {
+    let mut both = prints::Both::new(buffers);
+    KINDS.iter().filter(|kind| !short || kind.name == "import").for_each(|kind| both.realistic(kind));
+    if !short {
+        both.worst();
+    }
+}
+
 /// What is timed, and how.
 fn preface() {
     say!("best of up to {TIMINGS} timings of about {} ms or more, both sides in turn; MB/s are 1,000,000 bytes a second", TIMING * 1e3);
     say!("original: Lexer::new and tokenize with what they allocate; dropping the answer is left out");
     say!("ours: aura_tokenize over buffers allocated before; the buffers were not cleared first");
-    say!("largest: buffers of 33 (n + 1), 2n + 2 and 29n bytes; exact: buffers of the bytes used");
+    say!("largest: buffers of 33 (n + 1), 2n + 2 and 29n bytes, for the print of 6n; exact: buffers of the bytes used");
     say!("import scripts: made from templates; mixed scripts: tokens drawn at random, different scripts one after the other");
 }
 
-/// `short` times the realistic scripts only. Where places are named, the scripts there are timed, too.
+/// `short` times the realistic scripts only, and the print of import scripts. Where places are named, the scripts there are timed, too.
 pub fn run(short: bool, places: &[&Path]) -> Status {
     let named = match places {
         [] => Ok(Vec::new()),
@@ -421,6 +432,7 @@ pub fn run(short: bool, places: &[&Path]) -> Status {
     if !short {
         rows.extend(others(&scripts, &mut buffers));
     }
+    prints(short, &mut buffers);
     let kinds = || KINDS.iter().zip(rows.chunks(REALISTIC.len()));
     kinds().for_each(|(kind, rows)| growth(kind, rows));
     slower(&rows);

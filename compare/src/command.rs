@@ -20,19 +20,21 @@ with the original lexer's sources (AURA_SRC names their folder when building):
   points                   every code point at many places, and every code of \\u
   archive [--deep] FILE|FOLDER ..
                            files, and every file below folders: tokens and errors of both lexers, once for each file;
-                           --deep: also short and large buffers, the readers, and whether closed is right
+                           --deep: also short and large buffers, the readers, whether closed is right, and the print
   exhaustive DEPTH         every script of up to DEPTH symbols
   random SEED COUNT        random scripts
   mutate SEED COUNT [FILE|FOLDER ..]
                            damaged copies of files, or of a made script
   large SEED               scripts up to the limit and one byte more
+  prints SEED COUNT        the print of scripts made of what printing turns on, COUNT of them random ones
   readers SEED COUNT       next, consume and match over random scripts, in random order
   kinds                    the names and spellings of the token kinds
   listing FILE             the original's listing of a script, as the program `tokens` writes it
   mutants [--runs R,R..]   which run finds each changed copy of the original lexer, of all runs or of some
   store FILE               writes the stored answers
   bench [FILE|FOLDER .. | --short]
-                           the speed of both lexers, over files too; --short: import and mixed scripts only
+                           the speed of both lexers, over files too, and of the print; --short: import and mixed scripts
+                           only, and the print of import scripts
   page [FILE]              writes a page with the original's functions beside their definitions, by the tables of
                            docs/READING.md, and fails where a table is wrong; FILE is target/page.html if none is named
 exit status: 0 all is equal, 1 something differs, 2 something that was asked for could not be done, 3 the output was closed
@@ -62,6 +64,7 @@ pub enum Original<'a> {
     Random { seed: u64, count: u64 },
     Mutate { seed: u64, count: u64, places: Vec<&'a Path> },
     Large { seed: u64 },
+    Prints { seed: u64, count: u64 },
     Readers { seed: u64, count: u64 },
     Kinds,
     Listing { file: &'a Path },
@@ -173,6 +176,7 @@ fn original<'a>(name: &str, words: &mut Words<'a>) -> Result<Original<'a>, Strin
             Original::Mutate { seed, count, places: words.places(None)?.1 }
         }
         "large" => Original::Large { seed: words.number(&of("seed"))? },
+        "prints" => Original::Prints { seed: words.number(&of("seed"))?, count: words.number(&of("count"))? },
         "readers" => Original::Readers { seed: words.number(&of("seed"))?, count: words.number(&of("count"))? },
         "kinds" => Original::Kinds,
         "listing" => Original::Listing { file: words.file(&of("file"))? },
@@ -234,6 +238,7 @@ mod tests {
             ("archive -- --deep", Original::Archive { deep: false, places: vec![Path::new("--deep")] }),
             ("mutate 1 20", Original::Mutate { seed: 1, count: 20, places: Vec::new() }),
             ("mutate 1 20 a b", Original::Mutate { seed: 1, count: 20, places: places() }),
+            ("prints 1 20", Original::Prints { seed: 1, count: 20 }),
             ("bench", Original::Bench { short: false, places: Vec::new() }),
             ("bench --short", Original::Bench { short: true, places: Vec::new() }),
             ("mutants --runs rows,table", Original::Mutants { runs: Some(OsStr::new("rows,table")) }),

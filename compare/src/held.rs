@@ -4,6 +4,7 @@ use crate::decode;
 use crate::files;
 use crate::lexed::Lexed;
 use crate::oracle::{self, Lexing};
+use crate::print_scripts;
 use crate::readers;
 use crate::replay;
 use crate::say::{message, say, Status};
@@ -33,7 +34,7 @@ include!(concat!(env!("OUT_DIR"), "/mutants.rs"));
 
 /// Takes in the scripts of a run, with the gate's seeds and counts. It ends early where none is left to be found.
 type Scripts = fn(&mut Held) -> bool;
-const RUNS: [(&str, Scripts); 10] = [
+const RUNS: [(&str, Scripts); 11] = [
     ("replay", |held| replay::each(&mut |script, lexed| held.answer(script, lexed))),
     ("table", |held| scripts::table(&mut |script| held.script(script))),
     ("rows", |held| tables::rows(&mut |script| held.script(script))),
@@ -42,6 +43,7 @@ const RUNS: [(&str, Scripts); 10] = [
     ("random", |held| scripts::random(1, 100_000, &mut |script| held.script(script))),
     ("mutate", |held| scripts::mutate(1, 2_000, &[], &mut |script| held.script(script))),
     ("large", |held| scripts::large(1, &mut |script| held.script(script))),
+    ("prints", |held| print_scripts::all(1, 50_000, &mut |script| held.script(script))),
     ("readers", |held| readers::drawn(1, 50_000, &mut |text, calls| held.calls(text, calls))),
     ("archive", archive),
 ];

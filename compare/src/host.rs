@@ -1,7 +1,7 @@
 //! The proved library's calls by way of the crate `aura_lexer`. The answers are lent with a guard value in every slot, so that
 //! slots without a meaning are seen to keep; the typed functions of the crate have to answer the same. What is handed out is the
 //! values, without the figure's slot.
-use aura_lexer::raw::{self, CHECK_SLOTS, CONSUME_SLOTS, ERROR_SLOTS, FIGURE, MATCH_SLOTS, TOKEN_SLOTS, USED_SLOTS};
+use aura_lexer::raw::{self, CHECK_SLOTS, CONSUME_SLOTS, ERROR_SLOTS, FIGURE, MATCH_SLOTS, PRINT_SLOTS, TOKEN_SLOTS, USED_SLOTS};
 use aura_lexer::TokenReader;
 pub use aura_lexer::{Refusal, Used};
 
@@ -66,6 +66,13 @@ pub fn tokenize(script: &[u8], tokens: &mut [u8], texts: &mut [u8], errors: &mut
     let mut answer = [KEPT; USED_SLOTS];
     let number = raw::tokenize(script, tokens, texts, errors, &mut answer);
     used(number, answer)
+}
+
+/// The bytes written into the print buffer.
+pub fn print(script: &[u8], print: &mut [u8]) -> Result<usize, Refusal> {
+    let mut answer = [KEPT; PRINT_SLOTS];
+    let number = raw::print(script, print, &mut answer);
+    answered(number, answer).map(|[bytes]: [u64; 1]| bytes as usize)
 }
 
 /// The values of a token after the place, as the crate's typed token has them.

@@ -11,6 +11,8 @@ mod imports;
 mod lexed;
 mod list;
 mod mixed;
+mod print_model;
+mod prints;
 mod question2;
 mod records;
 mod replay;
@@ -41,6 +43,10 @@ mod oracle;
 #[cfg(oracle)]
 mod page;
 #[cfg(oracle)]
+mod print_laws;
+#[cfg(oracle)]
+mod print_scripts;
+#[cfg(oracle)]
 mod readers;
 #[cfg(oracle)]
 mod runs;
@@ -67,6 +73,7 @@ fn against_the_original(_: &Request, command: &Original) -> Status {
         Original::Random { seed, count } => runs::random(*seed, *count),
         Original::Mutate { seed, count, places } => runs::mutate(*seed, *count, places),
         Original::Large { seed } => runs::large(*seed),
+        Original::Prints { seed, count } => runs::prints(*seed, *count),
         Original::Readers { seed, count } => readers::run(*seed, *count),
         Original::Kinds => kinds::run().into(),
         Original::Listing { file } => listing::run(file),

@@ -111,8 +111,13 @@ pub fn lex_bytes(script: &[u8]) -> Result<Lexed, String> {
 
 /// Demand 3 asked of the original: whether `closed` is right for the script, of which it gives `first`.
 pub fn joins(script: &[u8], closed: bool, first: &Lexed) -> Result<(), String> {
+    joins_some(check::SECONDS.len(), script, closed, first)
+}
+
+/// The same with so many of the second scripts.
+pub fn joins_some(count: usize, script: &[u8], closed: bool, first: &Lexed) -> Result<(), String> {
     static SECONDS: OnceLock<Vec<Lexed>> = OnceLock::new();
-    check::joins(script, closed, first, SECONDS.get_or_init(|| check::seconds(lex_bytes)), lex_bytes)
+    check::joins(script, closed, first, &SECONDS.get_or_init(|| check::seconds(lex_bytes))[..count], lex_bytes)
 }
 
 #[cfg(test)]

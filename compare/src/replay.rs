@@ -3,6 +3,7 @@
 //! asked of the original with the seconds of `check`).
 use crate::check;
 use crate::lexed::{Lexed, Mistake, Token};
+use crate::prints;
 use crate::say::say;
 
 const ANSWERS: &str = include_str!("../data/answers.txt");
@@ -66,14 +67,15 @@ pub fn run() -> bool {
         let problem = match check::lex(&s.script) {
             Err(text) => Some(text),
             Ok((lexed, used)) if used.closed != s.closed => Some(format!("closed {}: {lexed:?}", used.closed)),
-            Ok((lexed, _)) => lexed.difference(&s.lexed),
+            Ok((lexed, _)) => lexed.difference(&s.lexed).or_else(|| prints::compare(&s.script, &s.lexed).err()),
         };
         if let Some(text) = problem {
             say!("DIFFERENT: {:?} ({}): {text}", String::from_utf8_lossy(&s.script), hex(&s.script));
             return false;
         }
     }
-    say!("replay: {} stored answers of the original, all equal", list.len());
+    let printed = list.iter().filter(|s| s.lexed.errors.is_empty()).count();
+    say!("replay: {} stored answers of the original, {printed} printed, all equal", list.len());
     list.len() >= 2000
 }
 

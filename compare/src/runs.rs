@@ -4,6 +4,9 @@ use crate::files;
 use crate::host::{self, Refusal};
 use crate::lexed::Lexed;
 use crate::oracle;
+use crate::print_laws;
+use crate::print_scripts;
+use crate::prints;
 use crate::question2;
 use crate::say::{message, say, Status};
 use crate::scripts;
@@ -38,7 +41,7 @@ fn joins(script: &[u8], closed: bool, first: &Lexed) -> Result<(), String> {
     oracle::joins(script, closed, first)
 }
 
-/// The refusal of a script that has to be refused, by both calls, which have to keep the buffers.
+/// The refusal of a script that has to be refused, by all three calls, which have to keep the buffers.
 fn compare_refused(script: &[u8], expected: Refusal) -> Result<(), String> {
     let mut buffers = [vec![7; 64], vec![7; 64], vec![7; 64]];
     let [tokens, texts, errors] = &mut buffers;
@@ -46,7 +49,15 @@ fn compare_refused(script: &[u8], expected: Refusal) -> Result<(), String> {
     if answers != [Err(expected); 2] || buffers.iter().flatten().any(|&b| b != 7) {
         return Err(format!("expected {expected:?}, answered {answers:?}"));
     }
-    Ok(())
+    prints::refused(script, expected)
+}
+
+/// The print of an accepted script, which has to be the model's and to keep order 2's laws.
+fn print(script: &[u8], original: &Lexed) -> Result<(), String> {
+    match prints::compare(script, original)? {
+        Some(print) => print_laws::check(script, original, &print),
+        None => Ok(()),
+    }
 }
 
 /// What both lexers say of a script.
@@ -71,10 +82,12 @@ pub fn compare(script: &[u8]) -> Result<Compared, String> {
         return compare_refused(script, expected).map(|()| Compared::Refused(expected));
     }
     let (lexed, used) = check::lex(script)?;
-    if let Some(difference) = lexed.difference(&oracle::lex_bytes(script)?) {
+    let original = oracle::lex_bytes(script)?;
+    if let Some(difference) = lexed.difference(&original) {
         return Err(difference);
     }
     joins(script, used.closed, &lexed)?;
+    print(script, &original)?;
     Ok(Compared::accepted(used.closed, &lexed))
 }
 
@@ -83,11 +96,26 @@ pub fn compare_once(script: &[u8]) -> Result<Compared, String> {
     if let Some(expected) = refusal(script) {
         return compare_refused(script, expected).map(|()| Compared::Refused(expected));
     }
+    lists(script).map(|(compared, _)| compared)
+}
+
+/// Compares the lists of an accepted script, and hands out the original's.
+fn lists(script: &[u8]) -> Result<(Compared, Lexed), String> {
     let (lexed, used) = check::lex_exactly(script)?;
-    match lexed.difference(&oracle::lex_bytes(script)?) {
-        None => Ok(Compared::accepted(used.closed, &lexed)),
+    let original = oracle::lex_bytes(script)?;
+    match lexed.difference(&original) {
+        None => Ok((Compared::accepted(used.closed, &lexed), original)),
         Some(difference) => Err(difference),
     }
+}
+
+/// Compares the lists of one script and its print, or its refusal.
+fn compare_print(script: &[u8]) -> Result<Compared, String> {
+    if let Some(expected) = refusal(script) {
+        return compare_refused(script, expected).map(|()| Compared::Refused(expected));
+    }
+    let (compared, original) = lists(script)?;
+    print(script, &original).map(|()| compared)
 }
 
 /// The smallest input that is found by leaving out parts of this one, and how it differs, which may be in another way.
@@ -103,6 +131,7 @@ pub struct Tally {
     scripts: u64,
     refused: u64,
     open: u64,
+    printed: u64,
     bytes: u64,
 }
 
@@ -116,7 +145,10 @@ impl Tally {
     fn take(&mut self, script: &[u8], answer: Result<Compared, String>) -> bool {
         match answer {
             Ok(Compared::Refused(_)) => self.refused += 1,
-            Ok(Compared::Accepted { closed, .. }) => self.open += u64::from(!closed),
+            Ok(Compared::Accepted { closed, errors, .. }) => {
+                self.open += u64::from(!closed);
+                self.printed += u64::from(errors == 0);
+            }
             Err(_) => {
                 say!("DIFFERENT: {}", smallest(script, compare));
                 return false;
@@ -136,7 +168,8 @@ impl Tally {
             message!("{name}: nothing was compared: no script was asked for; ask for one at least");
             return Status::NotDone;
         }
-        say!("{name}: {} scripts, {} bytes, {} refused, {} open, all equal", self.scripts, self.bytes, self.refused, self.open);
+        let Tally { scripts, refused, open, printed, bytes } = self;
+        say!("{name}: {scripts} scripts, {bytes} bytes, {refused} refused, {open} open, {printed} printed, all equal");
         Status::Passed
     }
 }
@@ -158,14 +191,14 @@ pub fn rows() -> Status {
     over("rows", tables::rows)
 }
 
-/// Packed scripts are long and many: only one of so many is compared in everything, of the others the lists.
+/// Packed scripts are long and many: only one of so many is compared in everything, of the others the lists and the print.
 pub fn points() -> Status {
     const WHOLE: u64 = 64;
     const LONG: usize = 1_000;
     let mut tally = Tally::default();
     let each = &mut |script: &[u8]| {
         let whole = script.len() < LONG || tally.scripts % WHOLE == 0;
-        tally.take(script, if whole { compare(script) } else { compare_once(script) })
+        tally.take(script, if whole { compare(script) } else { compare_print(script) })
     };
     match tables::points(each) {
         true => tally.report("points"),
@@ -179,6 +212,14 @@ pub fn exhaustive(depth: u32) -> Status {
 
 pub fn random(seed: u64, count: u64) -> Status {
     over("random", |each| scripts::random(seed, count, each))
+}
+
+pub fn prints(seed: u64, count: u64) -> Status {
+    let mut tally = Tally::default();
+    match print_scripts::all(seed, count, &mut |script| tally.take(script, compare_print(script))) {
+        true => tally.report("prints"),
+        false => Status::Failed,
+    }
 }
 
 /// Damaged copies of the scripts at the places, or of a made one where no place is named.

@@ -6,12 +6,12 @@ use crate::list;
 use crate::scripts::WHITE;
 use std::collections::BTreeSet;
 
-const HOLE: char = '□';
+pub const HOLE: char = '□';
 /// What stands before and behind a script that is also tried between others: strings, so that offsets and columns differ.
 const FRAME: [&str; 2] = ["\"é\"\n\"€\" ", " z"];
 
 /// The script alone, and between a line before it and a token behind it.
-fn framed(script: &str, each: &mut dyn FnMut(&[u8]) -> bool) -> bool {
+pub fn framed(script: &str, each: &mut dyn FnMut(&[u8]) -> bool) -> bool {
     let [before, behind] = FRAME;
     each(script.as_bytes()) && each([before, script, behind].concat().as_bytes())
 }
@@ -34,7 +34,7 @@ fn grown(text: &mut String, tables: &[&[&str]], each: &mut dyn FnMut(&[u8]) -> b
 }
 
 /// Every sequence of one part of each table.
-fn sequences(tables: &[&[&str]], each: &mut dyn FnMut(&[u8]) -> bool) -> bool {
+pub fn sequences(tables: &[&[&str]], each: &mut dyn FnMut(&[u8]) -> bool) -> bool {
     grown(&mut String::new(), tables, each)
 }
 
@@ -290,12 +290,12 @@ const CODE_LINES: [&str; 3] = ["\"\\u□\"", "\"$a\\u□b\"", "'\\u□'"];
 const LAST_CODE: u32 = 0xFFFF;
 
 /// The piece at every place, a place to a line.
-fn lines(places: &[&str], piece: &str) -> String {
+pub fn lines(places: &[&str], piece: &str) -> String {
     places.iter().map(|place| place.replace(HOLE, piece) + "\n").collect()
 }
 
 /// Packed scripts of the codes from the first to the last, with what `line` makes of each code.
-fn packed(first: u32, last: u32, line: impl Fn(u32) -> String, each: &mut dyn FnMut(&[u8]) -> bool) -> bool {
+pub fn packed(first: u32, last: u32, line: impl Fn(u32) -> String, each: &mut dyn FnMut(&[u8]) -> bool) -> bool {
     (first..=last).step_by(PACK as usize).all(|code| {
         let script: String = (code..code + PACK).map(&line).collect();
         each(script.as_bytes())

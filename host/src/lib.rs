@@ -1,5 +1,5 @@
-//! The proved Aura lexer behind safe functions. `lex` is the whole of it for most hosts; the other functions are the exported calls
-//! one by one, on buffers that the caller lends.
+//! The proved Aura lexer behind safe functions. `lex` is the whole of it for most hosts, and `print` writes a script in one layout; the
+//! other functions are the exported calls one by one, on buffers that the caller lends.
 //!
 //! ```
 //! let lexed = aura_lexer::lex(b"val a=1")?;
@@ -18,6 +18,7 @@ mod columns;
 mod errors;
 mod kinds;
 mod lexed;
+mod print;
 pub mod raw;
 mod reader;
 mod refusals;
@@ -27,6 +28,7 @@ pub use columns::columns;
 pub use errors::{ErrorKind, LexError};
 pub use kinds::TokenKind;
 pub use lexed::{lex, Errors, Lexed, Tokens};
+pub use print::{print, print_into, print_room};
 pub use reader::{next_error, text_check, token_text, TokenReader};
 pub use refusals::{Refusal, RefusalKind};
 

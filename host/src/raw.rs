@@ -7,6 +7,11 @@ pub const FIGURE: usize = 0;
 /// The slots of measuring and tokenising.
 pub const USED_SLOTS: usize = 6;
 
+/// Of printing: the bytes written.
+pub const PRINT_BYTES: usize = 1;
+/// The slots of printing.
+pub const PRINT_SLOTS: usize = 2;
+
 /// In the answers of all readers: the place of the next record.
 pub const NEXT_PLACE: usize = 1;
 /// In the answers of the readers of tokens and errors: the record's kind.
@@ -40,7 +45,7 @@ pub const MATCH_SLOTS: usize = 3;
 pub const CHECK_SLOTS: usize = 1;
 
 mod calls {
-    use super::{CHECK_SLOTS, CONSUME_SLOTS, ERROR_SLOTS, MATCH_SLOTS, TOKEN_SLOTS, USED_SLOTS};
+    use super::{CHECK_SLOTS, CONSUME_SLOTS, ERROR_SLOTS, MATCH_SLOTS, PRINT_SLOTS, TOKEN_SLOTS, USED_SLOTS};
 
     extern "C" {
         pub fn aura_first_bad(text: *const u8, length: usize, figure: *mut u64) -> u64;
@@ -58,6 +63,13 @@ mod calls {
             errors: *mut u8,
             errors_length: usize,
             answer: *mut [u64; USED_SLOTS],
+        ) -> u64;
+        pub fn aura_print(
+            script: *const u8,
+            script_length: usize,
+            print: *mut u8,
+            print_length: usize,
+            answer: *mut [u64; PRINT_SLOTS],
         ) -> u64;
         pub fn aura_next_token(tokens: *const u8, length: usize, place: usize, answer: *mut [u64; TOKEN_SLOTS]) -> u64;
         pub fn aura_consume(tokens: *const u8, length: usize, place: usize, kind: u64, answer: *mut [u64; CONSUME_SLOTS]) -> u64;
@@ -99,6 +111,11 @@ pub fn tokenize(script: &[u8], tokens: &mut [u8], texts: &mut [u8], errors: &mut
             answer,
         )
     }
+}
+
+/// `aura_print`: writes the office print of a script into a lent buffer.
+pub fn print(script: &[u8], print: &mut [u8], answer: &mut [u64; PRINT_SLOTS]) -> u64 {
+    unsafe { calls::aura_print(script.as_ptr(), script.len(), print.as_mut_ptr(), print.len(), answer) }
 }
 
 /// `aura_next_token`: the token record at a place.

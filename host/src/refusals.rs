@@ -47,6 +47,9 @@ refusals! {
     Cut 9 "the script ends in the middle of a character", "the first byte of the first bad sequence", "it was cut short on its way; send it again";
     Barred 10 "the script holds bytes that no program may write as UTF-8", "the first byte of the first bad sequence",
         "the program that saved it is at fault; save the script as UTF-8 with another one";
+    Mistake 11 "the script has a mistake", "where the first one recorded starts, in bytes after the byte-order mark",
+        "list its mistakes, mend them, and print it again";
+    Print 12 "the print buffer is too small", "the bytes needed", "lend a print buffer of at least that size";
 }
 
 impl RefusalKind {

@@ -1,6 +1,8 @@
 //! The answers of the calls, and that the tables agree with the headers for C.
 use crate::*;
 
+mod print;
+
 fn kinds(script: &str) -> Vec<u8> {
     let lexed = lex(script.as_bytes()).expect("accepted");
     lexed.tokens().map(|(token, _)| token.kind.number()).collect()
@@ -293,7 +295,7 @@ fn unnamed(table: &str) -> Vec<Vec<String>> {
 
 #[test]
 fn errors_and_refusals_are_told_in_the_same_words_everywhere() {
-    assert_eq!((error_rows().len(), refusal_rows().len()), (10, 10));
+    assert_eq!((error_rows().len(), refusal_rows().len()), (10, 12));
     assert_eq!(unnamed("AURA_ERRORS"), error_rows());
     assert_eq!(unnamed("AURA_REFUSALS"), refusal_rows());
     assert_eq!(page_rows(HOSTS_MD, "## Errors"), error_rows());

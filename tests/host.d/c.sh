@@ -22,6 +22,15 @@ c_lists() {
     silent
 }
 
+# c_prints SCRIPT COMMAND..: the command prints a script of examples/data, or refuses it where the listing has an error or a refusal.
+c_prints() {
+    local script=$1 expected=0
+    shift
+    if grep -qE '^(E|refused) ' "${script%.aura}.listing"; then expected=1; fi
+    status "$expected" "$@" < "$script"
+    if [ "$expected" -eq 0 ]; then silent; else said '^office_print: .+; .+'; fi
+}
+
 # c_calls PROGRAM: the checks of tests/calls.c hold.
 c_calls() {
     "$out/$1" || fail "the checks of tests/calls.c in $1"
@@ -115,10 +124,17 @@ c_sanitized() {
     c_build examples/listing.c listing-sanitized "${c_sanitizers[@]}"
     for script in examples/data/*.aura; do c_lists "$script" "$out/listing-sanitized"; done
     c_stops "$out/listing-sanitized"
+    c_build examples/office_print.c office_print-sanitized "${c_sanitizers[@]}"
+    for script in examples/data/*.aura; do c_prints "$script" "$out/office_print-sanitized"; done
     ASAN_OPTIONS=$ASAN_OPTIONS:allocator_may_return_null=1:max_allocation_size_mb=8
     head -c 1048576 /dev/zero > "$out/long.aura"
     status 2 "$out/listing-sanitized" "$out/long.aura"
     said '^listing: no memory$'
+    ASAN_OPTIONS=$ASAN_OPTIONS:max_allocation_size_mb=1
+    head -c 1048576 < <(yes '///') > "$out/long.aura"
+    status 0 "$out/office_print-sanitized" < examples/data/import.aura
+    status 2 "$out/office_print-sanitized" < "$out/long.aura"
+    said '^office_print: no memory$'
 }
 
 # The library itself is not built with the sanitizers; valgrind sees its reads and writes too.
@@ -129,12 +145,14 @@ c_valgrind() {
         return
     fi
     for name in import mistakes mark pieces row-c3 row-empty; do c_lists "examples/data/$name.aura" "${watch[@]}" "$out/listing"; done
+    for name in import spans mistakes mark row-c3 row-empty; do c_prints "examples/data/$name.aura" "${watch[@]}" "$out/office_print"; done
 }
 
 c_build tests/calls.c calls -O2
 c_build examples/listing.c listing -O2
 c_build examples/first.c first -O2
 c_build examples/help_desk.c help_desk -O2
+c_build examples/office_print.c office_print -O2
 c_calls calls
 c_headers
 c_library

@@ -27,10 +27,12 @@ samples() {
         shown "$command" README.md
         # shellcheck disable=SC2086
         $command > "$out/got" || [ "$?" -eq 1 ] || fail "$command"
+        # a print ends without a line feed, a line of the page does not
+        [ -z "$(tail -c 1 "$out/got")" ] || echo >> "$out/got"
         same "README.md, $command" "$out/got" "$out/code"
         count=$((count + 1))
     done < <(sed -n 's/^<!-- \(\.\/lex .*\) -->$/\1/p' README.md)
-    [ "$count" -ge 2 ] || fail "README.md shows only $count commands"
+    [ "$count" -ge 3 ] || fail "README.md shows only $count commands"
 }
 
 width() {

@@ -53,7 +53,7 @@ first_use() {
     grep -q '^rt: rules proved' "$copy/a tree/target/log/prover" || fail "the prover's output is not kept"
     if has_script; then
         PATH="$copy/bin:$PATH" on_terminal "'$lex' '$script'"
-        wrote 'proving 2 of 5[0-9]: rules'
+        wrote 'proving 2 of [5-9][0-9]: rules'
     else
         echo "the line that moves: skipped: there is no script (bsdutils)"
     fi
@@ -121,7 +121,7 @@ another_library() {
 # The help of each command fits 80 columns, and needs no program; --version names version and original.
 help() {
     local command page
-    for command in "" list check colour; do
+    for command in "" list check colour print; do
         page=tools/help/${command:-lex}.txt
         # shellcheck disable=SC2086
         status 0 ./lex $command --help
@@ -145,7 +145,7 @@ wrong_words() {
     status 2 ./lex --unknown
     said '^lex: --unknown is not understood; .+'
     status 2 ./lex chek examples/data/val.aura
-    said '^lex: chek is no command, .+; commands are list, check and colour; .+'
+    said '^lex: chek is no command, .+; commands are list, check, colour and print; .+'
     status 2 ./lex list one two
     said '^lex: two is one file too many; .+'
     status 2 ./lex colour --colour=often examples/data/val.aura
@@ -158,6 +158,15 @@ wrong_words() {
     said '^lex: --only asks for a value; .+'
     status 2 ./lex list examples/data
     said '^lex: cannot read examples/data: .+; .+'
+    status 2 ./lex print one two
+    said '^lex: two is one file too many; .+'
+    status 2 ./lex print --names examples/data/val.aura
+    said '^lex: --names is not understood; .+'
+    for script in "$out/no such file" examples/data; do
+        status 2 ./lex print "$script"
+        said "^lex: cannot read $script: .+; .+"
+        [ ! -s "$out/got" ] || fail "an output where none is due"
+    done
 }
 
 # A file that is called as a command.
@@ -168,13 +177,15 @@ called_as_commands() {
     in_folder() (
         cd "$folder" && exec "$@"
     )
-    for command in list check colour; do
+    for command in list check colour print; do
         cp examples/data/val.aura "$folder/$command"
         status 0 in_folder "$lex" -- "$command"
         same "a file $command" "$out/got" examples/data/val.listing
     done
     status 0 in_folder "$lex" list check
     same "list check" "$out/got" examples/data/val.listing
+    status 0 in_folder "$lex" print print
+    [ "$(cat "$out/got")" = "val a = 1" ] || fail "print print"
     status 0 in_folder "$lex" check check
     wrote '^files: 1, without mistakes: 1, '
     rm -rf "$folder"
@@ -249,6 +260,10 @@ bad_bytes() {
         status 1 ./lex $command - < "$folder/barred.aura"
         said '^lex: refusal 10, figure 10: .+; save the script as UTF-8 with another one .+'
     done
+    status 1 ./lex print "$folder/cut.aura"
+    said "^lex: $folder/cut\.aura:2:11: refusal 9, figure 20: .+; send it again .+"
+    status 1 ./lex print - < "$folder/barred.aura"
+    said '^lex: standard input:1:11: refusal 10, figure 10: .+; save the script as UTF-8 with another one .+'
     rm -rf "$folder"
 }
 
@@ -386,7 +401,7 @@ page() {
 
 # An output that is closed or full ends the command with 3, and never with a panic.
 no_output() {
-    local command
+    local command script
     closed() (
         exec "$@" >&-
     )
@@ -399,15 +414,18 @@ no_output() {
         return "${PIPESTATUS[0]}"
     }
     head -c 300000 /dev/zero | tr '\0' '\007' > "$out/many.aura"
-    for command in list check colour "list --names" "colour --html"; do
+    head -c 300000 < <(yes val) > "$out/faultless.aura"
+    for command in list check colour "list --names" "colour --html" print; do
+        script=$out/many.aura
+        [ "$command" != print ] || script=$out/faultless.aura
         # shellcheck disable=SC2086
         {
-            status 3 closed ./lex $command "$out/many.aura"
+            status 3 closed ./lex $command "$script"
             silent
-            status 3 full ./lex $command "$out/many.aura"
+            status 3 full ./lex $command "$script"
             said '^lex: cannot write: .+; make room, or write elsewhere$'
             said_lines 1
-            status 3 read_none ./lex $command "$out/many.aura"
+            status 3 read_none ./lex $command "$script"
             silent
         }
     done
@@ -419,7 +437,7 @@ no_output() {
         "$@" 2> /dev/full
     }
     status 2 unheard ./lex "$out/no such file"
-    rm -f "$out/many.aura"
+    rm -f "$out/many.aura" "$out/faultless.aura"
 }
 
 ./lex /dev/null > "$out/got"

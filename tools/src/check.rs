@@ -185,7 +185,7 @@ impl Check {
 
 /// Where a script is refused: the first bad sequence, or the first byte over the limit; with the line there as text, and the offset of
 /// the place in it.
-fn refused_at(bytes: &[u8], refusal: Refusal) -> (Place, String, usize) {
+pub fn refused_at(bytes: &[u8], refusal: Refusal) -> (Place, String, usize) {
     let byte = match refusal.kind {
         RefusalKind::Length => LIMIT,
         _ => refusal.figure as usize,

@@ -5,6 +5,7 @@ mod excerpt;
 mod html;
 mod listing;
 mod mistakes;
+mod office_print;
 mod terminal;
 mod words;
 
@@ -154,11 +155,12 @@ fn run(words: &[OsString]) -> Result<Status, Failure> {
         Some("list") => list(rest, LIST_HELP),
         Some("check") => check::run(rest),
         Some("colour") => colour(rest),
+        Some("print") => office_print::run(rest),
         Some("--version") => print(VERSION),
         Some("--colour" | "--color") => Err(Failure::Words("a script in colour is ./lex colour FILE".to_string())),
         Some(word) if !is_option(&words[0]) && !rest.iter().all(is_option) => {
             let word = visible::name(Path::new(word));
-            Err(Failure::Words(format!("{word} is no command, and a file alone is ./lex FILE; commands are list, check and colour")))
+            Err(Failure::Words(format!("{word} is no command, and a file alone is ./lex FILE; commands are list, check, colour and print")))
         }
         _ => list(words, HELP),
     }
@@ -196,7 +198,7 @@ mod tests {
 
     #[test]
     fn the_help_fits_80_columns() {
-        for text in [HELP, LIST_HELP, COLOUR_HELP, check::HELP, VERSION] {
+        for text in [HELP, LIST_HELP, COLOUR_HELP, check::HELP, office_print::HELP, VERSION] {
             assert!(text.lines().all(|line| line.chars().count() <= 80), "{text}");
         }
     }

@@ -172,7 +172,7 @@ module _ (s : List ℕ) (at : ℕ) (l : Line) (a : LineAt cleanLine true s at l)
   line-empty =
       sym (empty-encode line) ∙ ap isEmpty (sym (a .text)) ∙ empty-slice s (l .from) (l .to) (a .forth) (a .inside)
 
-  line-bytes : (k : ℕ) → encode (linesText k (cleanLines (charsAt s at)))
+  pub line-bytes : (k : ℕ) → encode (linesText k (cleanLines (charsAt s at)))
       ≡ lineText k (slice (l .from) (l .to) s) ++ encode (linesText (feedsAfter k (l .from is l .to)) rest)
   unfolding line linesText
   line-bytes k =

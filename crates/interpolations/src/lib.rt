@@ -28,7 +28,7 @@ pub struct Given {
 }
 
 // Where the interpolation ends whose dollar sign stands at p: behind its name or its closing brace.
-fn past_interpolation(text: &[u8], p: Position) -> Closing
+pub fn past_interpolation(text: &[u8], p: Position) -> Closing
     requires { ⌜ Within (now text) p ⌝ }
     requires { ⌜ next (exactly (ch "$")) (charsAt (now text) (p .offset)) ≡ true ⌝ }
     ensures { λ r. ⌜ PastAt (now (text .entry)) p r ⌝ }

@@ -66,7 +66,7 @@ module _ (script : List ℕ) where
   unfolding accepted isUtf8
   begin-valid ok = ap isValid (sym (bad-start (afterMark script))) ∙ (utf8-after-mark script ∙ and-both (leb (length script) LIMIT) (isUtf8 script) ok .1)
 
-  begin-good : accepted script ≡ true → Good (afterMark script) begin
+  pub begin-good : accepted script ≡ true → Good (afterMark script) begin
   begin-good ok =
       let h = text-low script ok in
       record { at = record { size = h; inside = zero-le; valid = begin-valid ok; lines = omega arith; columns = omega arith } }

@@ -60,6 +60,9 @@ pub fn put_part(src: &[u8], from: usize, to: usize, buf: &mut [u8], at: usize) -
     requires { ⌜ at ≤ PLACES ⌝ }
     ensures { λ r. ⌜ Put (now (buf .entry)) (now (buf .exit)) at (slice from to (now (src .entry))) r ⌝ }
 {
+    if buf.len() <= at {
+        return at + (to - from);
+    }
     let n = fitting(buf.len(), at, to - from);
     copy(src, from, from + n, buf, at);
     at + (to - from)

@@ -69,7 +69,7 @@ trimEnd-bytes [] = zero-le
 trimEnd-bytes (c ∷ cs) =
     if-all (λ (t : Text). bytes t ≤ width c + bytes cs) (isWhite c && isEmpty (trimEnd cs)) (λ _. omega arith) (λ _. omega (arith, trimEnd-bytes cs))
 
-trim-bytes : (cs : Text) → bytes (trim cs) ≤ bytes cs
+pub trim-bytes : (cs : Text) → bytes (trim cs) ≤ bytes cs
 unfolding trim
 trim-bytes cs = omega (arith, trimEnd-bytes (trimStart cs), trimStart-bytes cs)
 
@@ -84,7 +84,7 @@ unfolding cleanLine
 line-bytes l = omega (arith, trimStart-bytes (stripStars (trim l)), strip-bytes (trim l), trim-bytes l)
 
 -- The bytes of lines, with a line feed for each.
-lineBytes : List Text → ℕ
+unfoldable pub lineBytes : List Text → ℕ
 lineBytes [] = 0
 lineBytes (l ∷ ls) = bytes l + 1 + lineBytes ls
 
@@ -104,14 +104,14 @@ unfolding addToFirst lineBytes bytes
 added-bytes c [] = omega arith
 added-bytes c (l ∷ ls) = omega arith
 
-lines-bytes : (cs : Text) → lineBytes (lines cs) ≤ 1 + bytes cs
+pub lines-bytes : (cs : Text) → lineBytes (lines cs) ≤ 1 + bytes cs
 unfolding lines lineBytes bytes
 lines-bytes [] = omega arith
 lines-bytes (c ∷ cs) =
     if-all (λ (ls : List Text). lineBytes ls ≤ 1 + (width c + bytes cs)) (c is LF)
     (λ _. omega (arith, lines-bytes cs, width-low c)) (λ _. omega (arith, lines-bytes cs, added-bytes c (lines cs)))
 
-cleaner-bytes : (cs : Text) → bytes (cleanDoc cs) ≤ bytes cs
+pub cleaner-bytes : (cs : Text) → bytes (cleanDoc cs) ≤ bytes cs
 unfolding cleanDoc
 cleaner-bytes cs =
     omega (arith, trim-bytes (joinLines (map cleanLine (lines cs))), joined-bytes (map cleanLine (lines cs)), cleaned-bytes (lines cs), lines-bytes cs)

@@ -33,7 +33,7 @@ use Rattle.rules.proofs.Sizes.{chars-low}
 unfoldable pub isPiece : ℕ → Bool
 isPiece k = k is StringLiteral || k is StringInterpStart
 
-abbrev AllPieces : List Piece → Type 0
+abbrev pub AllPieces : List Piece → Type 0
 AllPieces = Every (λ (x : Piece). isPiece (x .kind) ≡ true)
 
 abbrev TurnPieces : Turn → Type 0
@@ -66,7 +66,7 @@ follow-pieces : (c : Char) (t : Turn) (go : ℕ → Text → Bool → Segment) �
 follow-pieces c (stop s) go h hg = h
 follow-pieces c (on ps fs o k b x) go h hg = every-append _ ps (go k b x .pieces) h (hg k b x)
 
-string-pieces : (k i : ℕ) (buf : Text) (interp : Bool) (cs : Text) → AllPieces (stringFrom k i buf interp cs .pieces)
+pub string-pieces : (k i : ℕ) (buf : Text) (interp : Bool) (cs : Text) → AllPieces (stringFrom k i buf interp cs .pieces)
 unfolding stringFrom stringRanOut isPiece
 string-pieces k i buf interp [] = (refl, tt)
 string-pieces (suc k) i buf interp (c ∷ cs) = string-pieces k (suc i) buf interp cs

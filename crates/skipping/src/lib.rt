@@ -125,7 +125,7 @@ fn skip_white(text: &[u8], p: Position) -> Position
 }
 
 // Whether a comment to the end of its line begins at a place.
-fn line_at(text: &[u8], at: usize) -> bool
+pub fn line_at(text: &[u8], at: usize) -> bool
     ensures { λ r. ⌜ r ≡ opensLine (charsAt (now (text .entry)) at) ⌝ }
 {
     if ahead::pair_at(text, at, b'/', b'/') {
@@ -135,7 +135,7 @@ fn line_at(text: &[u8], at: usize) -> bool
 }
 
 // Whether a block comment begins at a place.
-fn block_at(text: &[u8], at: usize) -> bool
+pub fn block_at(text: &[u8], at: usize) -> bool
     ensures { λ r. ⌜ r ≡ opensBlock (charsAt (now (text .entry)) at) ⌝ }
 {
     if ahead::pair_at(text, at, b'/', b'*') {

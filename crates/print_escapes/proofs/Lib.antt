@@ -1,0 +1,4 @@
+pub mod Sizes
+pub mod Bare
+pub mod Walks
+pub mod Literals

@@ -1,0 +1,3 @@
+pub mod Turns
+pub mod Walks
+pub mod Outcomes

@@ -1,0 +1,3 @@
+pub mod Lineless
+pub mod Tokens
+pub mod Things

@@ -1,0 +1,5 @@
+pub mod Turns
+pub mod Rows
+pub mod Loops
+pub mod Interps
+pub mod Plains

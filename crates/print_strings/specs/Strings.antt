@@ -1,0 +1,61 @@
+-- What the functions of a string's print promise.
+use mathlib.Core.Path.{_≡_}
+use mathlib.Core.Bool.{Bool, true, false, _&&_}
+use mathlib.Core.List.{List, [], _++_}
+use Prim.Native.Nat.{ℕ, _+_, _*_, _-_, _≤_}
+use Rattle.characters.specs.Utf8.{charsAt, encode}
+use Rattle.spans.specs.declared.Position.{Position}
+use Rattle.rules.specs.Text.{isEmpty}
+use Rattle.cursor.specs.Strings.{stands}
+use Rattle.bridge.specs.Bridge.{Reach}
+use Rattle.output.specs.Writing.{Put}
+use Rattle.string_runs.specs.Runs.{runChars, runMade, runErrors}
+use Rattle.interpolations.specs.Interpolations.{interpolationAt}
+use Rattle.prints.specs.Print.{literal, parting, isName}
+use Rattle.text_parts.specs.Parts.{partBytes}
+use Rattle.text_parts.specs.declared.Part.{Part}
+use Rattle.text_parts.specs.declared.Part.the-variants as part
+use Rattle.print_places.specs.Places.{noErrors}
+use Rattle.print_strings.specs.declared.Row.{Row}
+
+-- A part as it is written, and whether a `$name` stands right before what follows it.
+abbrev pub shownPart : Bool → List ℕ → Part → List ℕ
+shownPart named s x = literal named (partBytes s x)
+
+abbrev pub namedBehind : Bool → Part → Bool
+namedBehind named (part.Bytes from to) = false
+namedBehind named (part.Char c) = false
+namedBehind named part.Nothing = named
+
+-- The units from `p` on, up to where none stands, without an error: what they make was written as a literal.
+pub record RowWritten (s : List ℕ) (p : Position) (named : Bool) (out out′ : List ℕ) (at : ℕ) (r : Row) : Type 0 where
+  pub reach : Reach s p (runChars s p) (r .at)
+  pub stops : stands (charsAt s (r .at .offset)) ≡ false
+  pub right : runErrors s p ≡ []
+  pub put : Put out out′ at (literal named (encode (runMade s p))) (r .out)
+  pub name : r .named ≡ (named && isEmpty (runMade s p))
+  pub forth : p .offset ≤ r .at .offset
+  pub small : r .out ≤ at + 6 * (r .at .offset - p .offset)
+
+abbrev pub RowBy : Bool → List ℕ → Position → Bool → List ℕ → List ℕ → ℕ → Row → Type 0
+RowBy true s p named out out′ at r = noErrors (runErrors s p) ≡ false
+RowBy false s p named out out′ at r = RowWritten s p named out out′ at r
+
+abbrev pub RowAt : List ℕ → Position → Bool → List ℕ → List ℕ → ℕ → Row → Type 0
+RowAt s p named out out′ at r = RowBy (r .bad) s p named out out′ at r
+
+-- The interpolation at `p`, closed, was written; or it is not closed.
+pub record InterpolationWritten (s : List ℕ) (p : Position) (named : Bool) (out out′ : List ℕ) (at : ℕ) (r : Row) : Type 0 where
+  pub reach : Reach s p (interpolationAt s p .chars) (r .at)
+  pub shut : interpolationAt s p .open-end ≡ false
+  pub put : Put out out′ at (parting named ++ encode (interpolationAt s p .text)) (r .out)
+  pub name : r .named ≡ isName (encode (interpolationAt s p .text))
+  pub forth : p .offset ≤ r .at .offset
+  pub small : r .out ≤ at + 7 * (r .at .offset - p .offset)
+
+abbrev pub InterpolationBy : Bool → List ℕ → Position → Bool → List ℕ → List ℕ → ℕ → Row → Type 0
+InterpolationBy true s p named out out′ at r = (interpolationAt s p .open-end ≡ true) × Reach s p (interpolationAt s p .chars) (r .at)
+InterpolationBy false s p named out out′ at r = InterpolationWritten s p named out out′ at r
+
+abbrev pub InterpolationAt : List ℕ → Position → Bool → List ℕ → List ℕ → ℕ → Row → Type 0
+InterpolationAt s p named out out′ at r = InterpolationBy (r .bad) s p named out out′ at r

@@ -1,0 +1,5 @@
+pub mod Faults
+pub mod Sizes
+pub mod Quoted
+pub mod Letters
+pub mod Comments

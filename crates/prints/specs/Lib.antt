@@ -1,0 +1,6 @@
+pub mod Things
+pub mod Print
+pub mod Records
+pub mod Reprint
+pub mod Writing
+pub mod Examples

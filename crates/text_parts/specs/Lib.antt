@@ -1,0 +1,3 @@
+pub mod Parts
+pub mod Units
+pub mod Lines
