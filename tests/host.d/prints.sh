@@ -40,7 +40,7 @@ rows() {
 
 # tokens_of FILE: of each token its kind, its text, and whether it goes on with the string of the token before; then the errors.
 tokens_of() {
-    ./lex "$1" | awk '$1 == "T" { print $2, $9, NR > 1 && $3 == last; last = $3 } $1 == "E"'
+    ./lex "$1" | awk '$1 == "T" { print $2, $9, (NR > 1 && $3 == last); last = $3 } $1 == "E"'
 }
 
 # refused_print SCRIPT NUMBER FIGURE: nothing is written, and each program says why.
