@@ -122,7 +122,7 @@ follow() {
 
 prove() {
     needs_tool rt "the proved lexer"
-    say "proving and building the lexer, which takes about five minutes, once"
+    say "proving and building the lexer, which takes about ten minutes, once"
     mkdir -p "$logs"
     rm -f "$logs/proved"
     { rt staticlib aura_host 2>&1 && : > "$logs/proved"; } | follow > "$logs/prover"

@@ -17,7 +17,7 @@ has_script() {
     script -qec true /dev/null < /dev/null > /dev/null 2>&1
 }
 
-# A copy of the tree with a prover that only says what the real one says: the first use without its five minutes.
+# A copy of the tree with a prover that only says what the real one says: the first use without its ten minutes.
 copy_tree() {
     local copy=$1
     rm -rf "$copy"
