@@ -20,7 +20,7 @@ use Rattle.characters.proofs.Valids.{not-bad, not-end, tail-at, lead-none}
 use Rattle.spans.specs.declared.Position.{Position}
 use Rattle.rules.specs.Text.{Char, Text, LF}
 use Rattle.rules.specs.Scan.{next, Part, run, takes}
-use Rattle.bridge.specs.Bridge.{Within, Reach, Stops, isPlain, PastRun}
+use Rattle.bridge.specs.Bridge.{Within, Reach, Stops, isPlain, PastRun, RunEnd}
 use Rattle.bridge.proofs.Cuts.{run-none}
 use Rattle.bridge.proofs.Reaches.{reach-nil, reach-join, next-char, advance-along}
 
@@ -162,3 +162,26 @@ module _ (x y z : ℕ) (stops : Stops x y z) (s : List ℕ) (p : Position) (at c
       let w = m .within in
       let n : at + m .more ≡ at = omega (arith, w .inside) in
       m .going (spot p at col) (rw n (past-none f s (spot p at col) (rw n at w) l))
+
+-- ── The walk by places ──
+
+-- A walk from the place `from` stands at the byte `at`, whatever the column is there.
+abbrev pub MidAt : (Char → Bool) → List ℕ → ℕ → ℕ → Type 0
+MidAt f s from at = (p : Position) → p .offset ≡ from → Within s p → (col : ℕ) × Mid f s p at col
+
+pub mid-at-start : (f : Char → Bool) (s : List ℕ) (from : ℕ) → MidAt f s from from
+mid-at-start f s from p e w = (p .col, subst (λ (n : ℕ). Mid f s p n (p .col)) e (mid-start f s p w))
+
+module _ (x y z : ℕ) (stops : Stops x y z) (s : List ℕ) (from at : ℕ) (m : MidAt (isPlain x y z) s from at) where
+  pub mid-at-more : at < length s → isPlain x y z (getD s at 0) ≡ true → MidAt (isPlain x y z) s from (at + 1)
+  mid-at-more h g p e w = go (isTail (getD s at 0)) refl
+    where
+      go : (t : Bool) → isTail (getD s at 0) ≡ t → (col : ℕ) × Mid (isPlain x y z) s p (at + 1) col
+      go true t = (m p e w .0, mid-tail x y z stops s p at (m p e w .0) (m p e w .1) h t)
+      go false t = (m p e w .0 + 1, mid-char x y z stops s p at (m p e w .0) (m p e w .1) h t g)
+
+  pub mid-at-stop : at < length s → isPlain x y z (getD s at 0) ≡ false → RunEnd (isPlain x y z) s from at
+  mid-at-stop h g p e w = let (col, k) = m p e w in (spot p at col, refl, mid-stop x y z stops s p at col k h g)
+
+  pub mid-at-end : length s ≤ at → RunEnd (isPlain x y z) s from at
+  mid-at-end l p e w = let (col, k) = m p e w in (spot p at col, refl, mid-end x y z stops s p at col k l)

@@ -9,18 +9,19 @@ use native.Mathlib.Nat.{add-zero}
 use native.Mathlib.Numerals.{add-one}
 use borrow.Author.Tests.{eqb-true, eq-eqb, ne-eqb}
 use Rattle.characters.specs.Choice.{_is_}
-use Rattle.characters.specs.Utf8.{decodeAt, charsAt, width, isValid}
+use Rattle.characters.specs.Utf8.{decodeAt, charsAt, width, bytes, isValid}
 use Rattle.characters.specs.Valid.{badFrom}
 use Rattle.characters.specs.declared.Decoded.the-variants.{Code}
 use Rattle.characters.proofs.Choice.{if-all}
 use Rattle.characters.proofs.Decoding.{placed-code, decode-ascii}
 use Rattle.characters.proofs.Characters.{chars-code, bad-code}
-use Rattle.characters.proofs.Widths.{width-one}
+use Rattle.characters.proofs.Widths.{width-one, width-bounds}
 use Rattle.spans.specs.declared.Position.{Position}
 use Rattle.rules.specs.Text.{Text, LF}
 use Rattle.rules.specs.Scan.{next, startsWith, Part}
 use Rattle.rules.specs.Lexer.{advance, advances}
 use Rattle.rules.specs.Script.{LIMIT}
+use Rattle.rules.proofs.Placed.{advances-offset}
 use Rattle.bridge.specs.Bridge.{Within, Fits, Reach, onward, exactly, Flat, Cut}
 use Rattle.bridge.proofs.Tests.{low-is}
 use Rattle.bridge.proofs.Bytes.{next-cons, starts-first, starts-rest, starts-self}
@@ -74,6 +75,36 @@ reach-join s p q r t u x y =
       moved = y .moved ∙ (ap (λ (v : Position). advances v u) (x .moved) ∙ sym (advances-append p t u));
       within = y .within;
     }
+
+-- Lines and columns do not outgrow the offsets.
+advances-few : (p : Position) (t : Text) → p .line ≤ p .offset + 1 → p .col ≤ p .offset + 2
+    → (advances p t .line ≤ advances p t .offset + 1) × (advances p t .col ≤ advances p t .offset + 2)
+unfolding advances
+advances-few p [] l k = (l, k)
+advances-few p (c ∷ t) l k =
+    advances-few (advance p c) t (omega (arith, advance-line p c, advance-offset p c, width-bounds c))
+    (omega (arith, advance-col p c, advance-offset p c, width-bounds c))
+
+-- The same characters from another position at the same place.
+pub reach-again : (s : List ℕ) (p q p′ : Position) (t : Text) → Reach s p t q → p′ .offset ≡ p .offset → Within s p′
+    → Reach s p′ t (advances p′ t) × (advances p′ t .offset ≡ q .offset)
+reach-again s p q p′ t r e w =
+    let o : advances p′ t .offset ≡ q .offset
+    = advances-offset p′ t ∙ (ap (λ (n : ℕ). n + bytes t) e ∙ (sym (advances-offset p t) ∙ ap (λ (v : Position). v .offset) (sym (r .moved)))) in
+    let f = advances-few p′ t (w .lines) (w .columns) in (
+      record {
+        chars = ap (charsAt s) e ∙ (r .chars ∙ ap (λ (n : ℕ). t ++ charsAt s n) (sym o));
+        moved = refl;
+        within = record {
+          size = w .size;
+          inside = omega (arith, o, r .within .inside);
+          valid = ap (λ (n : ℕ). isValid (badFrom s n)) o ∙ r .within .valid;
+          lines = f .0;
+          columns = f .1;
+        };
+      },
+      o,
+    )
 
 -- The position after a decoded character.
 pub next-char : (s : List ℕ) (p q : Position) (c n : ℕ) → Within s p → decodeAt s (p .offset) ≡ Code c n → q ≡ advance p c

@@ -20,6 +20,10 @@ use Rattle.bridge.specs.declared.Ahead.the-variants as ahead
 
 -- ── Positions ──
 
+-- The position at a place, where lines and columns play no part.
+abbrev pub placed : ℕ → Position
+placed n = record { offset = n; line = 1; col = 1 }
+
 -- A position in a text of at most LIMIT bytes, which makes every sum fit, and which is UTF-8 from the position on.
 pub record Within (s : List ℕ) (p : Position) : Type 0 where
   pub size : length s ≤ LIMIT
@@ -64,6 +68,10 @@ pub record PastRun (f : Char → Bool) (s : List ℕ) (p q : Position) : Type 0 
   pub reach : Reach s p (run f (charsAt s (p .offset)) .taken) q
   pub left : charsAt s (q .offset) ≡ run f (charsAt s (p .offset)) .left
   pub forth : p .offset ≤ q .offset
+
+-- From the place `from` past all characters that pass a test, to the place `to`, whatever lines and columns they have.
+abbrev pub RunEnd : (Char → Bool) → List ℕ → ℕ → ℕ → Type 0
+RunEnd f s from to = (p : Position) → p .offset ≡ from → Within s p → (q : Position) × (q .offset ≡ to) × PastRun f s p q
 
 -- ── Words: parts of one line, of one-byte characters ──
 

@@ -3,7 +3,7 @@ ghost use mathlib.Core.Path.{_≡_};
 ghost use Rattle.characters.specs.Utf8.{width, charsAt};
 ghost use Rattle.rules.specs.Scan.{next};
 ghost use Rattle.rules.specs.Lexer.{advance};
-ghost use Rattle.bridge.specs.Bridge.{Fits, Letter, exactly, onward, Within, NextAt, isPlain, Stops, PastRun};
+ghost use Rattle.bridge.specs.Bridge.{placed, Fits, Letter, exactly, onward, Within, NextAt, isPlain, Stops, PastRun, RunEnd};
 use characters::Decoded;
 use spans::Position;
 
@@ -16,6 +16,17 @@ const BEHIND_LINE_FEED: u8 = b'\n' + 1;
 pub enum Ahead {
     Char(u32, Position),
     Nothing,
+}
+
+// The position at a place, for a walk in which lines and columns play no part: it has the first of both.
+pub fn at_place(place: usize) -> Position
+    ensures { λ r. ⌜ r ≡ placed place ⌝ }
+{
+    Position {
+        offset: place,
+        line: 1,
+        col: 1,
+    }
 }
 
 // The position n bytes on, each a character and none a line feed.
@@ -107,4 +118,20 @@ pub fn past_plain(text: &[u8], p: Position, x: u8, y: u8, z: u8) -> Position
         line,
         col,
     }
+}
+
+// The place after the plain characters at a place, for a walk in which lines and columns play no part.
+pub fn plain_end(text: &[u8], from: usize, x: u8, y: u8, z: u8) -> usize
+    requires { ⌜ Stops x y z ⌝ }
+    ensures { λ r. ⌜ RunEnd (isPlain x y z) (now (text .entry)) from r ⌝ }
+{
+    let mut end = from;
+    while end < text.len() {
+        let b = text[end];
+        if !is_plain(x, y, z, b) {
+            return end;
+        }
+        end += 1;
+    }
+    end
 }

@@ -14,6 +14,10 @@ use Rattle.prints.specs.Print.{escapes}
 abbrev pub MOST : ℕ
 MOST = 1099511627776
 
+-- How many hexadecimal digits there are.
+abbrev pub HEX : ℕ
+HEX = 16
+
 -- A character between quotes of the sort `q` that is not written as it stands.
 unfoldable pub isEscaped : Char → Char → Bool
 isEscaped q c = c is ch "\\" || c is q || c is LF || (c is ch "$" && q is ch "\"")

@@ -7,12 +7,21 @@ ghost use Rattle.characters.specs.Utf8.{encodeChar};
 ghost use Rattle.rules.specs.Script.{LIMIT};
 ghost use Rattle.output.specs.Writing.{Put};
 ghost use Rattle.prints.specs.Print.{hexDigit, unicode, escaped, escapes, isWord, literal};
-ghost use Rattle.print_escapes.specs.Escapes.{MOST, isEscaped, PastBare};
+ghost use Rattle.print_escapes.specs.Escapes.{MOST, HEX, isEscaped, PastBare};
 
 // The first character that is more than one byte.
 const BEYOND_ASCII: u32 = 0x80;
 
 const RADIX: u8 = 16;
+
+const LAST_DECIMAL: u8 = 9;
+
+// The bytes of `\u00`, of `\n` and of `\u0024`.
+const UNICODE_FRONT_BYTES: usize = 4;
+
+const LINE_FEED_BYTES: usize = 2;
+
+const DOLLAR_BYTES: usize = 6;
 
 // What is added to a digit's value from 10 on: `a` is 10.
 const LOWER_BASE: u8 = b'a' - 10;
@@ -36,10 +45,10 @@ fn is_word(b: u8) -> bool
 
 // A lower-case hexadecimal digit.
 fn hex_digit(n: u8) -> u8
-    requires { ⌜ n < 16 ⌝ }
+    requires { ⌜ n < HEX ⌝ }
     ensures { λ r. ⌜ r ≡ hexDigit n ⌝ }
 {
-    if n <= 9 {
+    if n <= LAST_DECIMAL {
         return n + b'0';
     }
     n + LOWER_BASE
@@ -50,7 +59,7 @@ fn put_unicode(b: u8, out: &mut [u8], at: usize) -> usize
     requires { ⌜ at ≤ MOST ⌝ }
     ensures { λ r. ⌜ Put (now (out .entry)) (now (out .exit)) at (unicode b) r ⌝ }
 {
-    let front = output::put_part(b"\\u00", 0, 4, out, at);
+    let front = output::put_part(b"\\u00", 0, UNICODE_FRONT_BYTES, out, at);
     let high = output::put_byte(out, front, hex_digit(b / RADIX));
     output::put_byte(out, high, hex_digit(b % RADIX))
 }
@@ -65,10 +74,10 @@ fn put_escaped(quote: u8, b: u8, out: &mut [u8], at: usize) -> usize
         return output::put_byte(out, place, b);
     }
     if b == b'\n' {
-        return output::put_part(b"\\n", 0, 2, out, at);
+        return output::put_part(b"\\n", 0, LINE_FEED_BYTES, out, at);
     }
     if (b == b'$') & (quote == b'"') {
-        return output::put_part(b"\\u0024", 0, 6, out, at);
+        return output::put_part(b"\\u0024", 0, DOLLAR_BYTES, out, at);
     }
     output::put_byte(out, at, b)
 }

@@ -17,7 +17,7 @@ use Rattle.cursor.specs.Cursor.{left}
 use Rattle.cursor.specs.declared.Cursor.the-variants.{Outside}
 use Rattle.cursor.proofs.Inside.{lex-step}
 use Rattle.cursor.proofs.Steps.{left-end}
-use Rattle.bridge.specs.Bridge.{Within}
+use Rattle.bridge.specs.Bridge.{placed, Within}
 use Rattle.multiline.specs.Tokens.{beginsNothing}
 use Rattle.multiline.proofs.BeginsNothing.{unexpected-segment}
 use Rattle.skipping.proofs.Stops.{kept-white}
@@ -25,7 +25,7 @@ use Rattle.word_tokens.proofs.Others.{other-nothing}
 use Rattle.output.specs.Writing.{Put}
 use Rattle.output.proofs.Buffers.{put-none, put-then}
 use Rattle.prints.specs.Writing.{outside, closingQuote, dueSpace, writeTokens}
-use Rattle.print_places.specs.Places.{placed, lexedFrom, still, stillOf, noErrors, rightFrom, Shows, ShownBy}
+use Rattle.print_places.specs.Places.{lexedFrom, still, stillOf, noErrors, rightFrom, Emits, EmittedBy}
 use Rattle.print_skips.specs.Gaps.{Passed, Skipped, SkippedBy, SkippedAt}
 use Rattle.print_skips.specs.declared.Gap.{Gap}
 use Rattle.print_steps.specs.declared.Printed.{Printed}
@@ -52,7 +52,7 @@ module _ (s : List ℕ) (from : ℕ) (g : Gap) (w : SkippedAt s from g) where
   pub skip-closed : g .open ≡ false → Skipped s from g
   skip-closed e = subst (λ (b : Bool). SkippedBy b s from g) e w
 
--- ── A thing ──
+-- ── An element ──
 
 pub due-length : (due : Bool) → length (dueSpace due) ≤ 1
 unfolding dueSpace
@@ -61,9 +61,9 @@ due-length false = omega arith
 
 module _ (s : List ℕ) (from start : ℕ) (k : Passed s from start) (due : Bool) (out mid out′ : List ℕ) (at place : ℕ)
     (p : Put out mid at (dueSpace due) place) where
-  shown-goes : (r : Printed) → Shows (r .due) s start mid out′ place (record { at = r .at; out = r .out; bad = r .bad })
+  emitted-goes : (r : Printed) → Emits (r .due) s start mid out′ place (record { at = r .at; out = r .out; bad = r .bad })
       → Goes s from due out out′ at (turnOf r)
-  shown-goes r w =
+  emitted-goes r w =
       let S = still s (outside (r .due)) (r .at) in
       record {
         bytes = dueSpace due ++ w .bytes;
@@ -75,19 +75,19 @@ module _ (s : List ℕ) (from start : ℕ) (k : Passed s from start) (due : Bool
         small = omega (arith, k .forth, w .forth, w .small, p .place, due-length due);
       }
 
-  pub thing-turn : (r : Printed) → PrintedAt s start mid out′ place r → TurnAt s from due out out′ at (turnOf r)
-  thing-turn r = by (r .bad) refl
+  pub element-turn : (r : Printed) → PrintedAt s start mid out′ place r → TurnAt s from due out out′ at (turnOf r)
+  element-turn r = by (r .bad) refl
     where
-      shown : (b : Bool) → r .bad ≡ b → PrintedAt s start mid out′ place r
-          → ShownBy b (r .due) s start mid out′ place (record { at = r .at; out = r .out; bad = r .bad })
-      shown b e w = subst (λ (x : Bool). ShownBy x (r .due) s start mid out′ place (record { at = r .at; out = r .out; bad = r .bad })) e w
+      emitted : (b : Bool) → r .bad ≡ b → PrintedAt s start mid out′ place r
+          → EmittedBy b (r .due) s start mid out′ place (record { at = r .at; out = r .out; bad = r .bad })
+      emitted b e w = subst (λ (x : Bool). EmittedBy x (r .due) s start mid out′ place (record { at = r .at; out = r .out; bad = r .bad })) e w
 
       turned : (b : Bool) → r .bad ≡ b → TurnBy b false s from due out out′ at (turnOf r) → TurnAt s from due out out′ at (turnOf r)
       turned b e w = subst (λ (x : Bool). TurnBy x false s from due out out′ at (turnOf r)) (sym e) w
 
       by : (b : Bool) → r .bad ≡ b → PrintedAt s start mid out′ place r → TurnAt s from due out out′ at (turnOf r)
-      by true e w = turned true e (k .right ∙ shown true e w)
-      by false e w = turned false e (shown-goes r (shown false e w))
+      by true e w = turned true e (k .right ∙ emitted true e w)
+      by false e w = turned false e (emitted-goes r (emitted false e w))
 
 pub turned-as : (s : List ℕ) (from : ℕ) (due : Bool) (out out′ : List ℕ) (at : ℕ) (r t : Turn) → r ≡ t
     → TurnAt s from due out out′ at t → TurnAt s from due out out′ at r
@@ -127,7 +127,7 @@ module _ (s : List ℕ) (from : ℕ) (n : Nothing s from) (c : Char) (cs : Text)
       ∙ (ap (λ (l : Lexed). noErrors (l .errors)) (lex-step (placed from) c cs)
       ∙ some-error g (lex 0 (after (placed from) g) (segment-takes c cs .rest) .errors) (unexpected-segment c cs begins))
 
--- ── Turns without a thing ──
+-- ── Turns without an element ──
 
 pub last-at : (s : List ℕ) (from at : ℕ) (b : Bool) (r : Turn) → r ≡ lastTurn from at b → LastBy b s from → LastAt s from at r
 last-at s from at b r e w = rw e (record { turn = refl; left = w })

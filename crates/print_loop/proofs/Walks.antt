@@ -12,7 +12,7 @@ use Rattle.rules.specs.Tokens.{TokenizeError}
 use Rattle.rules.specs.Lexer.{tokens, errors}
 use Rattle.rules.specs.Script.{LIMIT, accepted, scriptText, scriptTokens, scriptErrors}
 use Rattle.cursor.specs.Cursor.{left}
-use Rattle.bridge.specs.Bridge.{Within}
+use Rattle.bridge.specs.Bridge.{placed, Within}
 use Rattle.records.proofs.Filling.{Ahead, ahead-start, ahead-step, ahead-end}
 use Rattle.output.specs.Writing.{Put}
 use Rattle.list_loop.proofs.Loop.{begin-good}
@@ -20,7 +20,7 @@ use Rattle.prints.specs.Print.{printBytes}
 use Rattle.prints.specs.Records.{quoteAt}
 use Rattle.prints.specs.Writing.{outside, writeTokens}
 use Rattle.prints.proofs.Stepwise.{print-tokens}
-use Rattle.print_places.specs.Places.{placed, still, stillOf, noErrors, rightFrom}
+use Rattle.print_places.specs.Places.{still, stillOf, noErrors, rightFrom}
 use Rattle.print_loop.specs.declared.Turn.{Turn}
 use Rattle.print_loop.specs.declared.Walked.{Walked}
 use Rattle.print_loop.specs.Loops.{FRONT, Goes, Ends, TurnBy, TurnAt, WalkedAt}
@@ -84,7 +84,7 @@ module _ (script s out₀ out : List ℕ) (from : ℕ) (due : Bool) (at : ℕ) (
     pub walk-wrong : t .bad ≡ true → (n : ℕ) → WalkedAt script out₀ out′ (record { bytes = n; bad = true })
     walk-wrong e n = y .right ∙ as-wrong e
 
-    -- A thing more.
+    -- An element more.
     pub walk-more : t .bad ≡ false → t .ended ≡ false → Walking script s out₀ out′ (t .at) (t .due) (t .out)
     walk-more e f =
         let g = as-goes e f in

@@ -6,13 +6,13 @@ use Prim.Native.Nat.{ℕ, _+_, _*_, _-_, _≤_, _<_}
 use lib.ListN.{getD}
 use Rattle.characters.specs.Utf8.{charsAt}
 use Rattle.rules.specs.Script.{scriptErrors}
-use Rattle.bridge.specs.Bridge.{Within}
+use Rattle.bridge.specs.Bridge.{placed, Within}
 use Rattle.classes.specs.Classes.{OTHER, classOf}
 use Rattle.skipping.specs.Skips.{isSkipped}
 use Rattle.output.specs.Writing.{Put}
 use Rattle.prints.specs.Print.{printBytes}
 use Rattle.prints.specs.Writing.{outside}
-use Rattle.print_places.specs.Places.{placed, still, noErrors, rightFrom}
+use Rattle.print_places.specs.Places.{still, noErrors, rightFrom}
 use Rattle.print_steps.specs.declared.Printed.{Printed}
 use Rattle.print_loop.specs.declared.Turn.{Turn}
 use Rattle.print_loop.specs.declared.Walked.{Walked}

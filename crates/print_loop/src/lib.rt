@@ -1,9 +1,9 @@
-// The print of a script: its things one after another.
+// The print of a script: its elements one after another.
 ghost use mathlib.Core.Path.{_≡_};
 ghost use mathlib.Core.Bool.{true};
 ghost use Prim.Native.Nat.{_≤_};
 ghost use Rattle.rules.specs.Script.{accepted};
-ghost use Rattle.bridge.specs.Bridge.{Within};
+ghost use Rattle.bridge.specs.Bridge.{placed, Within};
 ghost use Rattle.classes.specs.Classes.{classTable};
 ghost use Rattle.marks.specs.Marks.{markTable};
 ghost use Rattle.output.specs.Writing.{Put, PLACES};
@@ -13,7 +13,6 @@ ghost use Rattle.print_loop.specs.Loops.{FRONT, turnOf, lastTurn, Nothin
 use bridge::Ahead;
 use classes::ClassTable;
 use marks::MarkTable;
-use print_places::placed;
 use print_steps::Printed;
 
 // A turn of the loop: the place behind what was printed, the place behind its bytes, whether a space is due behind it; `ended` says that
@@ -32,7 +31,7 @@ pub struct Walked {
     pub bad: bool,
 }
 
-// The turn of a thing that was printed.
+// The turn of an element that was printed.
 fn turn_of(p: Printed) -> Turn
     ensures { λ r. ⌜ r ≡ turnOf p ⌝ }
 {
@@ -71,17 +70,17 @@ fn put_space(due: bool, out: &mut [u8], at: usize) -> usize
 
 // Where nothing begins: the end of the text, or a character that is not expected.
 fn end_at(text: &[u8], from: usize, at: usize) -> Turn
-    requires { ⌜ Within (now text) (places.placed from) ⌝ }
+    requires { ⌜ Within (now text) (placed from) ⌝ }
     requires { ⌜ Nothing (now text) from ⌝ }
     ensures { λ r. ⌜ LastAt (now (text .entry)) from at r ⌝ }
 {
-    let Ahead::Char(_, _) = bridge::look(text, placed(from)) else {
+    let Ahead::Char(_, _) = bridge::look(text, bridge::at_place(from)) else {
         return last(from, at, false);
     };
     last(from, at, true)
 }
 
-// The next thing from a place on, behind a space if one is due.
+// The next element from a place on, behind a space if one is due.
 fn next(
     classes: &ClassTable,
     marks: &MarkTable,
@@ -93,7 +92,7 @@ fn next(
 ) -> Turn
     requires { ⌜ now classes ≡ classTable ⌝ }
     requires { ⌜ now marks ≡ markTable ⌝ }
-    requires { ⌜ Within (now text) (places.placed from) ⌝ }
+    requires { ⌜ Within (now text) (placed from) ⌝ }
     requires { ⌜ at ≤ FRONT ⌝ }
     ensures { λ r. ⌜ TurnAt (now (text .entry)) from due (now (out .entry)) (now (out .exit)) at r ⌝ }
 {
@@ -107,7 +106,7 @@ fn next(
         return end_at(text, start, at);
     }
     let place = put_space(due, out, at);
-    turn_of(print_steps::put_thing(classes, marks, text, start, class, out, place))
+    turn_of(print_steps::put_element(classes, marks, text, start, class, out, place))
 }
 
 // The print of a script, as far as the buffer holds it; and where an error was recorded, that.

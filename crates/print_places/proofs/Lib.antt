@@ -1,3 +1,3 @@
 pub mod Lineless
 pub mod Tokens
-pub mod Things
+pub mod Elements

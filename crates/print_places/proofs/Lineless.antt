@@ -17,7 +17,7 @@ use Rattle.rules.specs.Tables.{EOF}
 use Rattle.rules.proofs.Placed.{span-plain, after-offset}
 use Rattle.cursor.specs.Cursor.{left}
 use Rattle.cursor.specs.declared.Cursor.the-variants.{Outside}
-use Rattle.prints.specs.Things.{Word, lone, tokenWord, wordBytes}
+use Rattle.prints.specs.Elements.{Word, lone, tokenWord, wordBytes}
 use Rattle.prints.specs.Print.{isDoc}
 use Rattle.prints.specs.Records.{quoteAt}
 use Rattle.prints.specs.Writing.{State, outside, inString, closingQuote, isDue, isNamed, continuesAt, dueSpace, begun, onePiece, nameBehind, writeTokens, tokenText, stateBehind}

@@ -23,7 +23,7 @@ use Rattle.rules.proofs.Placed.{span-plain, advances-offset, after-offset}
 use Rattle.rules.proofs.Starts.{AllPieces, string-pieces}
 use Rattle.cursor.specs.Cursor.{andThen, held, left, placeFrom, tokensFrom}
 use Rattle.cursor.specs.declared.Cursor.the-variants.{Outside}
-use Rattle.prints.specs.Things.{Word, lone, tokenWord}
+use Rattle.prints.specs.Elements.{Word, lone, tokenWord}
 use Rattle.prints.specs.Print.{isDoc}
 use Rattle.prints.specs.Records.{quoteAt}
 use Rattle.prints.specs.Writing.{State, outside, inString, closingQuote, isDue, isNamed, continuesAt, dueSpace, begun, onePiece, nameBehind, tokenText, stateBehind, writeTokens}

@@ -1,24 +1,20 @@
--- What is still to be printed from a place on, and what the writers of things promise each other. Lines and columns play no part in a
+-- What is still to be printed from a place on, and what the writers of elements promise each other. Lines and columns play no part in a
 -- print, so all of it goes by places.
 use mathlib.Core.Path.{_≡_}
 use mathlib.Core.Bool.{Bool, true, false}
 use mathlib.Core.List.{List, [], _∷_, _++_, map}
 use Prim.Native.Nat.{ℕ, _+_, _*_, _-_, _≤_, _<_}
 use Rattle.characters.specs.Utf8.{charsAt}
-use Rattle.spans.specs.declared.Position.{Position}
 use Rattle.rules.specs.Tokens.{TokenizeError}
 use Rattle.rules.specs.Lexer.{Lexed, eof}
 use Rattle.rules.specs.Script.{asBytes}
 use Rattle.cursor.specs.Cursor.{left}
 use Rattle.cursor.specs.declared.Cursor.the-variants.{Outside}
-use Rattle.bridge.specs.Bridge.{Within}
+use Rattle.bridge.specs.Bridge.{placed, Within}
 use Rattle.output.specs.Writing.{Put}
 use Rattle.prints.specs.Records.{quoteAt}
 use Rattle.prints.specs.Writing.{State, outside, dueSpace, writeTokens}
 use Rattle.print_places.specs.declared.Written.{Written}
-
-abbrev pub placed : ℕ → Position
-placed n = record { offset = n; line = 1; col = 1 }
 
 -- What the rules still give from a place on, outside of strings.
 abbrev pub lexedFrom : List ℕ → ℕ → Lexed
@@ -43,9 +39,9 @@ rightFrom s at = noErrors (lexedFrom s at .errors)
 abbrev pub GROWTH : ℕ
 GROWTH = 64
 
--- The thing at the place `from` was written at `at` of the print: what is to be written from there on is a space where one is due,
--- the thing, and what is to be written behind it; `due′` says whether a space is due then.
-pub record Shows (due′ : Bool) (s : List ℕ) (from : ℕ) (out out′ : List ℕ) (at : ℕ) (w : Written) : Type 0 where
+-- The element at the place `from` was written at `at` of the print: what is to be written from there on is a space where one is due,
+-- the element, and what is to be written behind it; `due′` says whether a space is due then.
+pub record Emits (due′ : Bool) (s : List ℕ) (from : ℕ) (out out′ : List ℕ) (at : ℕ) (w : Written) : Type 0 where
   pub bytes : List ℕ
   pub put : Put out out′ at bytes (w .out)
   pub same : (due : Bool) → still s (outside due) from ≡ dueSpace due ++ (bytes ++ still s (outside due′) (w .at))
@@ -54,10 +50,10 @@ pub record Shows (due′ : Bool) (s : List ℕ) (from : ℕ) (out out′ : List 
   pub forth : from < w .at
   pub small : w .out ≤ at + GROWTH * (w .at - from)
 
--- The thing was written, or it has an error.
-abbrev pub ShownBy : Bool → Bool → List ℕ → ℕ → List ℕ → List ℕ → ℕ → Written → Type 0
-ShownBy true due′ s from out out′ at w = rightFrom s from ≡ false
-ShownBy false due′ s from out out′ at w = Shows due′ s from out out′ at w
+-- The element was written, or it has an error.
+abbrev pub EmittedBy : Bool → Bool → List ℕ → ℕ → List ℕ → List ℕ → ℕ → Written → Type 0
+EmittedBy true due′ s from out out′ at w = rightFrom s from ≡ false
+EmittedBy false due′ s from out out′ at w = Emits due′ s from out out′ at w
 
-abbrev pub ShownAt : Bool → List ℕ → ℕ → List ℕ → List ℕ → ℕ → Written → Type 0
-ShownAt due′ s from out out′ at w = ShownBy (w .bad) due′ s from out out′ at w
+abbrev pub EmittedAt : Bool → List ℕ → ℕ → List ℕ → List ℕ → ℕ → Written → Type 0
+EmittedAt due′ s from out out′ at w = EmittedBy (w .bad) due′ s from out out′ at w

@@ -19,7 +19,7 @@ use Rattle.rules.specs.Tables.{UnterminatedBlockComment}
 use Rattle.rules.specs.Lexer.{advance, skip}
 use Rattle.cursor.specs.Cursor.{left}
 use Rattle.cursor.specs.declared.Cursor.the-variants.{Outside}
-use Rattle.bridge.specs.Bridge.{Within, Reach, exactly}
+use Rattle.bridge.specs.Bridge.{placed, Within, Reach, exactly}
 use Rattle.bridge.proofs.Tests.{low-is}
 use Rattle.bridge.proofs.Bytes.{byte-next}
 use Rattle.bridge.proofs.Reaches.{advance-offset}
@@ -32,9 +32,9 @@ use Rattle.skipping.specs.Skips.{PastComment}
 use Rattle.skipping.proofs.Slashes.{slash, line-no, block-no}
 use Rattle.skipping.proofs.Stops.{stops-here}
 use Rattle.skipping.proofs.Skips as skips
-use Rattle.print_places.specs.Places.{placed, lexedFrom, noErrors, rightFrom}
+use Rattle.print_places.specs.Places.{lexedFrom, noErrors, rightFrom}
 use Rattle.print_places.proofs.Tokens.{wrong-some, none-still, none-right}
-use Rattle.print_places.proofs.Things.{within-placed, still-placed, right-placed}
+use Rattle.print_places.proofs.Elements.{within-placed, still-placed, right-placed}
 use Rattle.print_skips.specs.declared.Gap.{Gap}
 use Rattle.print_skips.specs.Gaps.{isBlank, Passed, PastBy, Skipped}
 

@@ -7,11 +7,11 @@ use Rattle.characters.specs.Choice.{_is_, within}
 use Rattle.characters.specs.Space.{isWhite}
 use Rattle.characters.specs.Utf8.{charsAt}
 use Rattle.rules.specs.Scan.{next}
-use Rattle.bridge.specs.Bridge.{Within}
+use Rattle.bridge.specs.Bridge.{placed, Within}
 use Rattle.walks.specs.Openings.{opensLine, opensBlock}
 use Rattle.skipping.specs.Skips.{isSkipped}
 use Rattle.prints.specs.Writing.{State}
-use Rattle.print_places.specs.Places.{placed, still, rightFrom}
+use Rattle.print_places.specs.Places.{still, rightFrom}
 use Rattle.print_skips.specs.declared.Comment.{Comment}
 use Rattle.print_skips.specs.declared.Comment.the-variants as answer
 use Rattle.print_skips.specs.declared.Gap.{Gap}

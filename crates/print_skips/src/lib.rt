@@ -1,12 +1,11 @@
 // White space and comments passed by their places alone: a print needs no lines and columns.
 ghost use mathlib.Core.Path.{_≡_};
-ghost use Rattle.bridge.specs.Bridge.{Within};
+ghost use Rattle.bridge.specs.Bridge.{placed, Within};
 ghost use Rattle.print_places.specs.Places as places;
 ghost use Rattle.print_skips.specs.Gaps.{isBlank, SomeWhite, AllWhite, CommentAt, SkippedAt};
 use bridge::Ahead;
 use characters::space;
 use characters::utf8;
-use print_places::placed;
 use walks::walk;
 
 // The place behind what was passed, and whether the text ran out in it.
@@ -23,10 +22,10 @@ enum Comment {
 
 // Past one character of white space, also beyond ASCII; it stays only where there is none.
 fn past_wide(text: &[u8], from: usize) -> usize
-    requires { ⌜ Within (now text) (places.placed from) ⌝ }
+    requires { ⌜ Within (now text) (placed from) ⌝ }
     ensures { λ r. ⌜ SomeWhite (now (text .entry)) from r ⌝ }
 {
-    let Ahead::Char(c, q) = bridge::look(text, placed(from)) else {
+    let Ahead::Char(c, q) = bridge::look(text, bridge::at_place(from)) else {
         return from;
     };
     if space::is_white(c) {
@@ -47,7 +46,7 @@ fn is_blank(b: u8) -> bool
 
 // Past white space.
 fn past_white(text: &[u8], from: usize) -> usize
-    requires { ⌜ Within (now text) (places.placed from) ⌝ }
+    requires { ⌜ Within (now text) (placed from) ⌝ }
     ensures { λ r. ⌜ AllWhite (now (text .entry)) from r ⌝ }
 {
     let mut at = from;
@@ -70,16 +69,16 @@ fn past_white(text: &[u8], from: usize) -> usize
 
 // The comment at a place.
 fn comment_at(text: &[u8], at: usize) -> Comment
-    requires { ⌜ Within (now text) (places.placed at) ⌝ }
+    requires { ⌜ Within (now text) (placed at) ⌝ }
     ensures { λ r. ⌜ CommentAt (now (text .entry)) at r ⌝ }
 {
     if skipping::line_at(text, at) {
-        let c = walk::to_byte(text, bridge::along(placed(at), 2), b'\n');
+        let c = walk::to_byte(text, bridge::along(bridge::at_place(at), 2), b'\n');
         let q = c.at;
         return Comment::Past(q.offset, true);
     }
     if skipping::block_at(text, at) {
-        let c = walk::to_pair(text, bridge::along(placed(at), 2));
+        let c = walk::to_pair(text, bridge::along(bridge::at_place(at), 2));
         let q = walk::behind_mark(c, 2);
         return Comment::Past(q.offset, c.found);
     }
@@ -88,7 +87,7 @@ fn comment_at(text: &[u8], at: usize) -> Comment
 
 // Past white space and comments.
 pub fn skip(text: &[u8], from: usize) -> Gap
-    requires { ⌜ Within (now text) (places.placed from) ⌝ }
+    requires { ⌜ Within (now text) (placed from) ⌝ }
     ensures { λ r. ⌜ SkippedAt (now (text .entry)) from r ⌝ }
 {
     let mut at = from;

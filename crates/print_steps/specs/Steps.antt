@@ -1,4 +1,4 @@
--- What the writer of one thing promises.
+-- What the writer of one element promises.
 use mathlib.Core.Path.{_≡_}
 use mathlib.Core.Bool.{Bool, false}
 use mathlib.Core.List.{List}
@@ -7,7 +7,7 @@ use lib.ListN.{getD}
 use Rattle.characters.specs.Utf8.{charsAt}
 use Rattle.classes.specs.Classes.{OTHER, classOf}
 use Rattle.skipping.specs.Skips.{isSkipped}
-use Rattle.print_places.specs.Places.{ShownBy}
+use Rattle.print_places.specs.Places.{EmittedBy}
 use Rattle.print_places.specs.declared.Written.{Written}
 use Rattle.print_steps.specs.declared.Printed.{Printed}
 
@@ -20,6 +20,6 @@ pub record Chosen (s : List ℕ) (from k : ℕ) : Type 0 where
 abbrev pub printedOf : Written → Bool → Printed
 printedOf w due = record { at = w .at; out = w .out; due = due; bad = w .bad }
 
--- The thing at a place was written, or it has an error.
+-- The element at a place was written, or it has an error.
 abbrev pub PrintedAt : List ℕ → ℕ → List ℕ → List ℕ → ℕ → Printed → Type 0
-PrintedAt s from out out′ at r = ShownBy (r .bad) (r .due) s from out out′ at (record { at = r .at; out = r .out; bad = r .bad })
+PrintedAt s from out out′ at r = EmittedBy (r .bad) (r .due) s from out out′ at (record { at = r .at; out = r .out; bad = r .bad })

@@ -1,4 +1,4 @@
-// One thing of a script, printed: the choice of what stands at a place.
+// One element of a script, printed: the choice of what stands at a place.
 ghost use mathlib.Core.Path.{_≡_};
 ghost use mathlib.Core.Bool.{true, false};
 ghost use Prim.Native.Nat.{_≤_, _/_};
@@ -6,7 +6,7 @@ ghost use lib.ListN.{getD};
 ghost use Rattle.characters.specs.Utf8.{charsAt};
 ghost use Rattle.rules.specs.Text.{ch};
 ghost use Rattle.rules.specs.Scan.{next, startsWith};
-ghost use Rattle.bridge.specs.Bridge.{Within, exactly};
+ghost use Rattle.bridge.specs.Bridge.{placed, Within, exactly};
 ghost use Rattle.walks.specs.Openings.{opensDoc};
 ghost use Rattle.multiline.specs.Tokens.{slashes};
 ghost use Rattle.classes.specs.Classes.{classTable, classOf};
@@ -40,32 +40,32 @@ fn printed_of(w: Written, due: bool) -> Printed
 
 // The string, ordinary or raw, at a place.
 fn put_quoted(text: &[u8], from: usize, out: &mut [u8], at: usize) -> Written
-    requires { ⌜ Within (now text) (places.placed from) ⌝ }
+    requires { ⌜ Within (now text) (placed from) ⌝ }
     requires { ⌜ next (exactly (ch "\"")) (charsAt (now text) from) ≡ true ⌝ }
     requires { ⌜ at ≤ MOST / 4 ⌝ }
-    ensures { λ r. ⌜ places.ShownAt true (now (text .entry)) from (now (out .entry)) (now (out .exit)) at r ⌝ }
+    ensures { λ r. ⌜ places.EmittedAt true (now (text .entry)) from (now (out .entry)) (now (out .exit)) at r ⌝ }
 {
     if walks::ahead::three_at(text, from, b'"', b'"', b'"') {
-        return print_things::put_raw(text, from, out, at);
+        return print_tokens::put_raw(text, from, out, at);
     }
     print_strings::put_string(text, from, out, at)
 }
 
 // The doc comment at a place.
 fn put_doc(text: &[u8], from: usize, out: &mut [u8], at: usize) -> Written
-    requires { ⌜ Within (now text) (places.placed from) ⌝ }
+    requires { ⌜ Within (now text) (placed from) ⌝ }
     requires { ⌜ (startsWith slashes (charsAt (now text) from) ≡ false → opensDoc (charsAt (now text) from) ≡ true) ⌝ }
     requires { ⌜ at ≤ MOST / 4 ⌝ }
-    ensures { λ r. ⌜ places.ShownAt false (now (text .entry)) from (now (out .entry)) (now (out .exit)) at r ⌝ }
+    ensures { λ r. ⌜ places.EmittedAt false (now (text .entry)) from (now (out .entry)) (now (out .exit)) at r ⌝ }
 {
     if walks::ahead::three_at(text, from, b'/', b'/', b'/') {
-        return print_things::put_line_doc(text, from, out, at);
+        return print_tokens::put_line_doc(text, from, out, at);
     }
-    print_things::put_block_doc(text, from, out, at)
+    print_tokens::put_block_doc(text, from, out, at)
 }
 
 // What stands at a place of the class that is told, where nothing that is skipped does.
-pub fn put_thing(
+pub fn put_element(
     classes: &ClassTable,
     marks: &MarkTable,
     text: &[u8],
@@ -76,7 +76,7 @@ pub fn put_thing(
 ) -> Printed
     requires { ⌜ now classes ≡ classTable ⌝ }
     requires { ⌜ now marks ≡ markTable ⌝ }
-    requires { ⌜ Within (now text) (places.placed from) ⌝ }
+    requires { ⌜ Within (now text) (placed from) ⌝ }
     requires { ⌜ Chosen (now text) from class ⌝ }
     requires { ⌜ at ≤ MOST / 4 ⌝ }
     ensures { λ r. ⌜ PrintedAt (now (text .entry)) from (now (out .entry)) (now (out .exit)) at r ⌝ }
@@ -85,7 +85,7 @@ pub fn put_thing(
         return printed_of(put_quoted(text, from, out, at), true);
     }
     if class == classes::APOSTROPHE {
-        return printed_of(print_things::put_character(text, from, out, at), true);
+        return printed_of(print_tokens::put_character(text, from, out, at), true);
     }
     if words::begins_word(text, from, class) {
         return printed_of(
@@ -94,7 +94,7 @@ pub fn put_thing(
         );
     }
     if class == classes::DOLLAR {
-        return printed_of(print_things::put_braces(text, from, out, at), true);
+        return printed_of(print_tokens::put_braces(text, from, out, at), true);
     }
     printed_of(put_doc(text, from, out, at), false)
 }

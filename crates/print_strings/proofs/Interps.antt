@@ -12,10 +12,12 @@ use Rattle.characters.proofs.Choice.{if-all}
 use Rattle.spans.specs.declared.Position.{Position}
 use Rattle.rules.specs.Text.{Text, ch, text, isLetter, isDigit, isIdentPart}
 use Rattle.rules.specs.Scan.{Part, next, startsWith, run}
+use Rattle.rules.specs.Lexer.{advances}
 use Rattle.rules.proofs.Ahead.{is-not}
 use Rattle.cursor.specs.Strings.{Interpolation, braces, named, interpolationOf}
-use Rattle.bridge.specs.Bridge.{Within, Reach, exactly}
+use Rattle.bridge.specs.Bridge.{placed, Within, Reach, exactly}
 use Rattle.bridge.proofs.Bytes.{starts-one}
+use Rattle.bridge.proofs.Reaches.{reach-again}
 use Rattle.output.specs.Writing.{Put}
 use Rattle.output.proofs.Buffers.{put-then}
 use Rattle.walks.specs.declared.Closing.{Closing}
@@ -24,7 +26,7 @@ use Rattle.interpolations.specs.Interpolations.{interpolationAt, PastAt, missin
 use Rattle.interpolations.proofs.InterpLaws.{interp-first, text-bytes, past-forth}
 use Rattle.prints.specs.Print.{parting, isName}
 use Rattle.prints.proofs.Bytewise.{BytesOf, low, high, bytes-of-char}
-use Rattle.print_strings.specs.Strings.{InterpolationWritten, InterpolationBy}
+use Rattle.print_strings.specs.Strings.{InterpolationBy, InterpolationAt}
 use Rattle.print_strings.specs.declared.Row.{Row}
 
 parting-length : (b : Bool) → length (parting b) ≤ 6
@@ -91,21 +93,55 @@ module _ (s : List ℕ) (p : Position) (w : Within s p) (c : Closing) (x : PastA
   module _ (nm b : Bool) (out mid out′ : List ℕ) (at place end : ℕ) (u : Put out mid at (parting nm) place)
       (v : Put mid out′ place (slice (p .offset) (c .at .offset) s) end) (e : b ≡ next (exactly (ch "{")) (charsAt s (p .offset + 1))) where
     abbrev r : Row
-    r = record { at = c .at; out = end; named = not b; bad = not (c .found) }
+    r = record { at = c .at .offset; out = end; named = not b; bad = not (c .found) }
 
     by-found : (f : Bool) → c .found ≡ f → InterpolationBy (not f) s p nm out out′ at r
-    by-found false h = (x .same ∙ ap not h, x .reach)
+    by-found false h = (c .at, x .same ∙ ap not h, x .reach)
     by-found true h =
         let l = slice (p .offset) (c .at .offset) s in
-        let t : encode (interpolationAt s p .text) ≡ l = text-bytes s p w c x ∙ no-brace-missing (c .found) h l in
-        record {
-          reach = x .reach;
-          shut = x .same ∙ ap not h;
-          put = subst (λ (k : List ℕ). Put out out′ at (parting nm ++ k) end) (sym t) (put-then out mid out′ at place end (parting nm) l u v);
-          name = ap not e ∙ sym (interp-name (charsAt s (p .offset + 1)));
-          forth = past-forth s p w c x;
-          small = omega (arith, interp-long s p (c .at) (x .reach), u .place, v .place, parting-length nm, length-slice (p .offset) (c .at .offset) s (x .reach .within .inside));
-        }
+        let t : encode (interpolationAt s p .text) ≡ l = text-bytes s p w c x ∙ no-brace-missing (c .found) h l in (
+          c .at,
+          refl,
+          record {
+            reach = x .reach;
+            shut = x .same ∙ ap not h;
+            put = subst (λ (k : List ℕ). Put out out′ at (parting nm ++ k) end) (sym t) (put-then out mid out′ at place end (parting nm) l u v);
+            name = ap not e ∙ sym (interp-name (charsAt s (p .offset + 1)));
+            forth = past-forth s p w c x;
+            small = omega (arith, interp-long s p (c .at) (x .reach), u .place, v .place, parting-length nm, length-slice (p .offset) (c .at .offset) s (x .reach .within .inside));
+          },
+        )
 
-    pub interp-by : InterpolationBy (not (c .found)) s p nm out out′ at r
+    interp-by : InterpolationBy (not (c .found)) s p nm out out′ at r
     interp-by = by-found (c .found) refl
+
+-- ── By places ──
+
+-- What holds of an interpolation at one position holds at every other at its place.
+module _ (s : List ℕ) (p : Position) (w : Within s p) (nm : Bool) (out out′ : List ℕ) (at : ℕ) (r : Row) where
+  interp-moved : (b : Bool) → InterpolationBy b s (placed (p .offset)) nm out out′ at r → InterpolationBy b s p nm out out′ at r
+  interp-moved true (e, h, k) =
+      let m = reach-again s (placed (p .offset)) e p (interpolationAt s p .chars) k refl w in
+      (advances p (interpolationAt s p .chars), h, m .0)
+  interp-moved false (e, d, z) =
+      let m = reach-again s (placed (p .offset)) e p (interpolationAt s p .chars) (z .reach) refl w in (
+        advances p (interpolationAt s p .chars),
+        m .1 ∙ d,
+        record {
+          reach = m .0;
+          shut = z .shut;
+          put = z .put;
+          name = z .name;
+          forth = omega (arith, m .1, z .forth);
+          small = omega (arith, m .1, z .small);
+        },
+      )
+
+pub interp-at : (s : List ℕ) (from : ℕ) (w : Within s (placed from)) (c : Closing) → PastAt s (placed from) c → (nm b : Bool) (out mid out′ : List ℕ)
+    (at place end : ℕ) → Put out mid at (parting nm) place → Put mid out′ place (slice from (c .at .offset) s) end
+    → b ≡ next (exactly (ch "{")) (charsAt s (from + 1))
+    → InterpolationAt s from nm out out′ at (record { at = c .at .offset; out = end; named = not b; bad = not (c .found) })
+interp-at s from w c x nm b out mid out′ at place end u v e p d k =
+    let r : Row = record { at = c .at .offset; out = end; named = not b; bad = not (c .found) } in
+    let h = interp-by s (placed from) w c x nm b out mid out′ at place end u v e in
+    interp-moved s p k nm out out′ at r (not (c .found)) (subst (λ (n : ℕ). InterpolationBy (not (c .found)) s (placed n) nm out out′ at r) (sym d) h)

@@ -18,24 +18,25 @@ use Rattle.cursor.specs.Cursor.{held, left}
 use Rattle.cursor.specs.declared.Cursor.the-variants.{Outside}
 use Rattle.cursor.proofs.Steps.{enters-string}
 use Rattle.cursor.proofs.Pieces.{stops-dollar}
-use Rattle.bridge.specs.Bridge.{Within, Reach, exactly, onward}
+use Rattle.bridge.specs.Bridge.{placed, Within, Reach, exactly, onward}
 use Rattle.bridge.proofs.Bytes.{byte-next}
 use Rattle.bridge.proofs.Tests.{low-is}
 use Rattle.bridge.proofs.Reaches.{one-on}
 use Rattle.output.specs.Writing.{Put}
-use Rattle.output.proofs.Buffers.{put-then}
+use Rattle.output.proofs.Buffers.{put-then, put-length}
 use Rattle.walks.specs.Walks.{quotes}
 use Rattle.string_runs.specs.Runs.{runChars, runMade, runErrors}
 use Rattle.interpolations.specs.Interpolations.{interpolationAt}
 use Rattle.prints.specs.Print.{literal, parting, isName}
 use Rattle.prints.specs.Records.{quoteAt}
 use Rattle.prints.specs.Writing.{outside, inString, dueSpace}
-use Rattle.print_places.specs.Places.{placed, still, stillOf, noErrors, rightFrom, Shows, ShownBy, ShownAt}
+use Rattle.print_places.specs.Places.{still, stillOf, noErrors, rightFrom, Emits, EmittedBy, EmittedAt}
 use Rattle.print_places.specs.declared.Written.{Written}
 use Rattle.print_places.proofs.Tokens.{open-still}
-use Rattle.print_places.proofs.Things.{within-placed}
-use Rattle.print_strings.specs.Strings.{RowWritten, InterpolationWritten}
+use Rattle.print_places.proofs.Elements.{within-placed}
+use Rattle.print_strings.specs.Strings.{Spot, spotOf, RowWritten, RowBy, RowAt, InterpolationWritten, InterpolationBy, InterpolationAt}
 use Rattle.print_strings.specs.declared.Row.{Row}
+use Rattle.print_strings.proofs.Interps.{interp-long}
 use Rattle.print_strings.proofs.Turns.{quote-still, quote-right, dollar-still, dollar-right, dollar-wrong, end-wrong, feed-wrong, units-wrong}
 
 -- The string that begins at `from` was written up to `c`; `named` says that a `$name` stands right before it.
@@ -51,6 +52,10 @@ pub record Stringing (s : List ℕ) (from : ℕ) (out₀ out : List ℕ) (at : �
   pub within : Within s c
   pub forth : from < c .offset
   pub small : place ≤ at + 8 * (c .offset - from)
+
+-- The string that begins at `from` was written up to the place `c`.
+abbrev pub StringingAt : List ℕ → ℕ → List ℕ → List ℕ → ℕ → ℕ → ℕ → Bool → Type 0
+StringingAt s from out₀ out at c place named = (q : Position) × (q .offset ≡ c) × Stringing s from out₀ out at q place named
 
 -- ── The beginning ──
 
@@ -76,32 +81,33 @@ module _ (s : List ℕ) (from : ℕ) (w : Within s (placed from)) (q : next (exa
   unfolding quoteAt
   quoted = sym (byte-next (exactly (ch "\"")) (low-is 1 (ch "\"") (omega arith) (omega arith)) s from) ∙ q
 
-  pub string-start : (out₀ out : List ℕ) (at place : ℕ) (c : Position) → c ≡ onward (placed from) 1 → Put out₀ out at (ch "\"" ∷ []) place
-      → Stringing s from out₀ out at c place false
-  string-start out₀ out at place c e p =
-      rw e
-      (record {
-        later = false;
-        sofar = text "\"";
-        put = p;
-        same = λ due.
-            ap (stillOf s (outside due)) entered
-            ∙ open-still s due (placed from) (onward (placed from) 1) (charsAt s (from + 1)) (omega arith) quoted;
-        right = ap (λ l. noErrors (l .errors)) entered;
-        within = first .within;
-        forth = omega arith;
-        small = omega (arith, p .place);
-      })
+  pub string-begin : (out₀ out : List ℕ) (at place : ℕ) → Put out₀ out at (ch "\"" ∷ []) place → StringingAt s from out₀ out at (from + 1) place false
+  string-begin out₀ out at place p = (
+    onward (placed from) 1,
+    refl,
+    record {
+      later = false;
+      sofar = text "\"";
+      put = p;
+      same = λ due.
+          ap (stillOf s (outside due)) entered
+          ∙ open-still s due (placed from) (onward (placed from) 1) (charsAt s (from + 1)) (omega arith) quoted;
+      right = ap (λ l. noErrors (l .errors)) entered;
+      within = first .within;
+      forth = omega arith;
+      small = omega (arith, p .place);
+    },
+  )
 
 -- A string that has an error.
-pub shown-wrong : (s : List ℕ) (from : ℕ) (out out′ : List ℕ) (at : ℕ) (w : Written) → w .bad ≡ true → rightFrom s from ≡ false
-    → ShownAt true s from out out′ at w
-shown-wrong s from out out′ at w e h = subst (λ (b : Bool). ShownBy b true s from out out′ at w) (sym e) h
+pub emitted-wrong : (s : List ℕ) (from : ℕ) (out out′ : List ℕ) (at : ℕ) (w : Written) → w .bad ≡ true → rightFrom s from ≡ false
+    → EmittedAt true s from out out′ at w
+emitted-wrong s from out out′ at w e h = subst (λ (b : Bool). EmittedBy b true s from out out′ at w) (sym e) h
 
 -- ── A turn ──
 
 module _ (s : List ℕ) (from : ℕ) (out₀ out : List ℕ) (at : ℕ) (c : Position) (place : ℕ) (named : Bool)
-    (y : Stringing s from out₀ out at c place named) (out′ : List ℕ) (r : Row) where
+    (y : Stringing s from out₀ out at c place named) (out′ : List ℕ) (r : Spot) where
   late : from ≤ c .offset
   late = omega (arith, y .forth)
 
@@ -118,7 +124,7 @@ module _ (s : List ℕ) (from : ℕ) (out₀ out : List ℕ) (at : ℕ) (c : Pos
 
     -- The closing quote.
     string-end : (q : Position) → Reach s (r .at) (ch "\"" ∷ []) q → (out″ : List ℕ) (end : ℕ) → Put out′ out″ (r .out) (ch "\"" ∷ []) end
-        → (w : Written) → w .at ≡ q .offset → w .out ≡ end → Shows true s from out₀ out″ at w
+        → (w : Written) → w .at ≡ q .offset → w .out ≡ end → Emits true s from out₀ out″ at w
     string-end q k out″ end p w e f =
         let l = literal named (encode m) in
         let S = still s (outside true) (q .offset) in
@@ -143,7 +149,7 @@ module _ (s : List ℕ) (from : ℕ) (out₀ out : List ℕ) (at : ℕ) (c : Pos
         reach-one k = unfold advances advance width in (ap (λ (p : Position). p .offset) (k .moved))
 
     pub string-closed : next (exactly (ch "\"")) (charsAt s (r .at .offset)) ≡ true → (out″ : List ℕ) (end : ℕ) → Put out′ out″ (r .out) (ch "\"" ∷ []) end
-        → Shows true s from out₀ out″ at (record { at = r .at .offset + 1; out = end; bad = false })
+        → Emits true s from out₀ out″ at (record { at = r .at .offset + 1; out = end; bad = false })
     string-closed d out″ end p =
         string-end (onward (r .at) 1) (one-on s (r .at) (ch "\"") (omega arith) (omega arith) (z .reach .within) d) out″ end p
         (record { at = r .at .offset + 1; out = end; bad = false }) refl refl
@@ -184,7 +190,7 @@ module _ (s : List ℕ) (from : ℕ) (out₀ out : List ℕ) (at : ℕ) (c : Pos
           → rightFrom s from ≡ false
       interp-wrong e (h, k) = y .right ∙ dollar-wrong s (placed from) c (y .later) named (r .at) (z .reach) late rest dollar opens refl e k (z .right) h
 
-      pub string-more : (out″ : List ℕ) (i : Row) → InterpolationWritten s (r .at) (r .named) out′ out″ (r .out) i
+      pub string-more : (out″ : List ℕ) (i : Spot) → InterpolationWritten s (r .at) (r .named) out′ out″ (r .out) i
           → Stringing s from out₀ out″ at (i .at) (i .out) (i .named)
       string-more out″ i v =
           let l = literal named (encode m) in
@@ -207,3 +213,75 @@ module _ (s : List ℕ) (from : ℕ) (out₀ out : List ℕ) (at : ℕ) (c : Pos
             forth = omega (arith, y .forth, z .forth, v .forth);
             small = omega (arith, y .small, z .small, z .forth, v .small, v .forth, y .forth);
           }
+
+-- ── By places ──
+
+module _ (s : List ℕ) (from : ℕ) (out₀ out : List ℕ) (at c place : ℕ) (named : Bool) (y : StringingAt s from out₀ out at c place named) where
+  pub at-within : Within s (placed c)
+  at-within = subst (λ (n : ℕ). Within s (placed n)) (y .1) (within-placed s (y .0) (y .2 .within))
+
+  pub at-small : place ≤ at + 8 * length s
+  at-small = omega (arith, y .2 .small, y .2 .within .inside)
+
+  pub at-length : length out ≡ length out₀
+  at-length = put-length _ _ _ _ _ (y .2 .put)
+
+  module _ (out′ : List ℕ) (r : Row) (h : RowAt s c named out out′ place r) where
+    row-of : (b : Bool) → r .bad ≡ b → RowBy b s (y .0) named out out′ place r
+    row-of b e = subst (λ (b : Bool). RowBy b s (y .0) named out out′ place r) e (h (y .0) (y .1) (y .2 .within))
+
+    pub at-bad : r .bad ≡ true → rightFrom s from ≡ false
+    at-bad e = row-wrong s from out₀ out at (y .0) place named (y .2) out′ (spotOf (y .0) r) (row-of true e)
+
+    module _ (e : r .bad ≡ false) where
+      abbrev stop : Position
+      stop = row-of false e .0
+
+      stops-at : stop .offset ≡ r .at
+      stops-at = row-of false e .1
+
+      row : RowWritten s (y .0) named out out′ place (spotOf stop r)
+      row = row-of false e .2
+
+      pub at-room : r .out ≤ at + 8 * length s
+      at-room = row-room s from out₀ out at (y .0) place named (y .2) out′ (spotOf stop r) row
+
+      pub row-within : Within s (placed (r .at))
+      row-within = subst (λ (n : ℕ). Within s (placed n)) stops-at (within-placed s stop (row .reach .within))
+
+      -- What stands behind the row, said of its position.
+      there : (x : ℕ) (b : Bool) → next (exactly x) (charsAt s (r .at)) ≡ b → next (exactly x) (charsAt s (stop .offset)) ≡ b
+      there x b f = subst (λ (n : ℕ). next (exactly x) (charsAt s n) ≡ b) (sym stops-at) f
+
+      pub at-closed : next (exactly (ch "\"")) (charsAt s (r .at)) ≡ true → (out″ : List ℕ) (end : ℕ) → Put out′ out″ (r .out) (ch "\"" ∷ []) end
+          → Emits true s from out₀ out″ at (record { at = r .at + 1; out = end; bad = false })
+      at-closed f out″ end p =
+          subst (λ (n : ℕ). Emits true s from out₀ out″ at (record { at = n + 1; out = end; bad = false })) stops-at
+          (string-closed s from out₀ out at (y .0) place named (y .2) out′ (spotOf stop r) row (there (ch "\"") true f) out″ end p)
+
+      pub at-stuck : next (exactly (ch "\"")) (charsAt s (r .at)) ≡ false → next (exactly (ch "$")) (charsAt s (r .at)) ≡ false → rightFrom s from ≡ false
+      at-stuck f g =
+          string-wrong s from out₀ out at (y .0) place named (y .2) out′ (spotOf stop r) row (there (ch "\"") false f) (there (ch "$") false g)
+
+      module _ (f : next (exactly (ch "$")) (charsAt s (r .at)) ≡ true) (out″ : List ℕ) (i : Row)
+          (g : InterpolationAt s (r .at) (r .named) out′ out″ (r .out) i) where
+        interp-of : (b : Bool) → i .bad ≡ b → InterpolationBy b s stop (r .named) out′ out″ (r .out) i
+        interp-of b k = subst (λ (b : Bool). InterpolationBy b s stop (r .named) out′ out″ (r .out) i) k (g stop stops-at (row .reach .within))
+
+        pub at-open : i .bad ≡ true → rightFrom s from ≡ false
+        at-open k =
+            let x = interp-of true k in
+            interp-wrong s from out₀ out at (y .0) place named (y .2) out′ (spotOf stop r) row (there (ch "$") true f) (x .0) (x .1, x .2)
+
+        pub at-more : i .bad ≡ false → StringingAt s from out₀ out″ at (i .at) (i .out) (i .named)
+        at-more k =
+            let x = interp-of false k in
+            (x .0, x .1, string-more s from out₀ out at (y .0) place named (y .2) out′ (spotOf stop r) row (there (ch "$") true f) out″ (spotOf (x .0) i) (x .2))
+
+        -- Less is left behind it.
+        pub at-less : i .bad ≡ false → (c < i .at) × (i .at ≤ length s)
+        at-less k =
+            let x = interp-of false k in (
+              omega (arith, y .1, row .forth, interp-long s stop (x .0) (x .2 .reach), x .1),
+              omega (arith, x .1, x .2 .reach .within .inside),
+            )

@@ -22,7 +22,7 @@ use Rattle.text_parts.specs.Units.{GoesOn}
 use Rattle.text_parts.specs.declared.Part.{Part}
 use Rattle.text_parts.specs.declared.Part.the-variants as part
 use Rattle.text_parts.specs.declared.units.Step.{Step}
-use Rattle.print_strings.specs.Strings.{shownPart}
+use Rattle.print_strings.specs.Strings.{emittedPart}
 
 -- A character that is neither up to the line feed nor a quote, a dollar sign or a backslash.
 abbrev plain : Char → Bool
@@ -60,8 +60,8 @@ and-both false b e = absurd (true≢false (sym e))
 
 -- A part that says so, where no `$name` stands right before it.
 pub part-bare : (s : List ℕ) (p : Position) (r : Step) (named b : Bool) → Within s p → GoesOn s p r → b ≡ (r .plain && not named) → b ≡ true
-    → shownPart named s (r .part) ≡ partBytes s (r .part)
+    → emittedPart named s (r .part) ≡ partBytes s (r .part)
 part-bare s p r named b w g e f =
     let (h, n) = and-both (r .plain) named (sym e ∙ f) in
     let (x, k) = g .plain h in
-    rw (n, x) (past-bare s p (r .at) w k)
+    rw (n, x) (past-bare s p (g .end) w k)

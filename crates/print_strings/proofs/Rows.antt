@@ -28,12 +28,12 @@ use Rattle.prints.proofs.Bytewise.{empty-encode}
 use Rattle.print_escapes.proofs.Sizes.{literal-length, literal-part}
 use Rattle.print_places.specs.Places.{noErrors}
 use Rattle.text_parts.specs.Parts.{partBytes, PartWithin}
-use Rattle.text_parts.specs.Units.{GoesOn}
+use Rattle.text_parts.specs.Units.{GoesOn, NextBy, NextAt}
 use Rattle.text_parts.specs.declared.Part.{Part}
 use Rattle.text_parts.specs.declared.Part.the-variants as part
 use Rattle.text_parts.specs.declared.units.Step.{Step}
 use Rattle.text_parts.proofs.Strings.{units-over, errors-over, chars-over}
-use Rattle.print_strings.specs.Strings.{namedBehind, shownPart, RowWritten, RowAt}
+use Rattle.print_strings.specs.Strings.{namedBehind, emittedPart, RowWritten, RowBy}
 use Rattle.print_strings.specs.declared.Row.{Row}
 
 -- ── One part ──
@@ -52,16 +52,16 @@ named-behind s named (part.Char c) h =
 named-behind s named part.Nothing h = sym (and-true named)
 
 -- A part is written as what it is.
-pub part-put : (old new s : List ℕ) (named : Bool) (at r : ℕ) (x y : Part) → x ≡ y → Put old new at (shownPart named s y) r
-    → Put old new at (shownPart named s x) r
-part-put old new s named at r x y e w = subst (λ (z : Part). Put old new at (shownPart named s z) r) (sym e) w
+pub part-put : (old new s : List ℕ) (named : Bool) (at r : ℕ) (x y : Part) → x ≡ y → Put old new at (emittedPart named s y) r
+    → Put old new at (emittedPart named s x) r
+part-put old new s named at r x y e w = subst (λ (z : Part). Put old new at (emittedPart named s z) r) (sym e) w
 
 -- A part that is written as it stands, said of another name for it.
-pub bare-by : (s : List ℕ) (named plain : Bool) (x y : Part) → x ≡ y → (plain ≡ true → shownPart named s x ≡ partBytes s x)
-    → plain ≡ true → shownPart named s y ≡ partBytes s y
-bare-by s named plain x y e f p = subst (λ (z : Part). shownPart named s z ≡ partBytes s z) e (f p)
+pub bare-by : (s : List ℕ) (named plain : Bool) (x y : Part) → x ≡ y → (plain ≡ true → emittedPart named s x ≡ partBytes s x)
+    → plain ≡ true → emittedPart named s y ≡ partBytes s y
+bare-by s named plain x y e f p = subst (λ (z : Part). emittedPart named s z ≡ partBytes s z) e (f p)
 
-pub nothing-put : (out s : List ℕ) (named : Bool) (at : ℕ) → Put out out at (shownPart named s part.Nothing) at
+pub nothing-put : (out s : List ℕ) (named : Bool) (at : ℕ) → Put out out at (emittedPart named s part.Nothing) at
 unfolding literal
 nothing-put out s named at = put-none out at
 
@@ -101,16 +101,16 @@ module _ (s : List ℕ) (p : Position) (named : Bool) (out₀ out : List ℕ) (a
   and-assoc false b c = refl
 
   -- A part more.
-  pub row-more : (r : Step) → GoesOn s c r → r .bad ≡ false → (out′ : List ℕ) (place′ : ℕ) (name′ : Bool)
-      → Put out out′ place (shownPart name s (r .part)) place′ → name′ ≡ namedBehind name (r .part)
-      → Rowing s p named out₀ out′ at (r .at) place′ name′
+  pub row-more : (r : Step) (g : GoesOn s c r) → r .bad ≡ false → (out′ : List ℕ) (place′ : ℕ) (name′ : Bool)
+      → Put out out′ place (emittedPart name s (r .part)) place′ → name′ ≡ namedBehind name (r .part)
+      → Rowing s p named out₀ out′ at (g .end) place′ name′
   row-more r g b out′ place′ name′ w n =
       let l = partBytes s (r .part) in
       let none : g .notes ≡ [] = empty-nil (g .notes) (not-not (isEmpty (g .notes)) (sym (g .bad) ∙ b)) in
-      let u : Units s c (r .at) l [] = subst (λ (es : List ℕ). Units s c (r .at) l es) none (g .units) in
+      let u : Units s c (g .end) l [] = subst (λ (es : List ℕ). Units s c (g .end) l es) none (g .units) in
       record {
         bytes = y .bytes ++ l;
-        units = units-join s p c (r .at) (y .bytes) l [] [] (y .units) u;
+        units = units-join s p c (g .end) (y .bytes) l [] [] (y .units) u;
         put =
             subst (λ (v : List ℕ). Put out₀ out′ at v place′) (sym (literal-part named (y .bytes) l))
             (put-then out₀ out out′ at place place′ (literal named (y .bytes)) (literal (named && isEmpty (y .bytes)) l) (y .put)
@@ -135,7 +135,7 @@ module _ (s : List ℕ) (p : Position) (named : Bool) (out₀ out : List ℕ) (a
       error-long : (x : TokenizeError) → 1 ≤ errorLength (x .kind)
       error-long x = unfold errorLength in (if-all (λ (n : ℕ). 1 ≤ n) (hasCode (x .kind)) (λ _. omega arith) (λ _. omega arith))
 
-  pub row-end : stands (charsAt s (c .offset)) ≡ false → RowWritten s p named out₀ out at (record { at = c; out = place; named = name; bad = false })
+  pub row-end : stands (charsAt s (c .offset)) ≡ false → RowWritten s p named out₀ out at (record { at = c; out = place; named = name })
   row-end h =
       let made : encode (runMade s p) ≡ y .bytes = y .units .made ∙ (ap (λ (t : Text). y .bytes ++ encode t) (units-over s c h) ∙ nothing-behind (y .bytes)) in
       let chars : runChars s p ≡ y .units .chars
@@ -160,10 +160,45 @@ module _ (s : List ℕ) (p : Position) (named : Bool) (out₀ out : List ℕ) (a
   pub row-wrong : (r : Step) → GoesOn s c r → r .bad ≡ true → noErrors (runErrors s p) ≡ false
   row-wrong r g b = some-error (runErrors s p) (y .units .errors ∙ g .units .errors) (sym (g .bad) ∙ b)
     where
-      some-error : (es : List TokenizeError) → errorBytes es ≡ g .notes ++ errorBytes (runErrors s (r .at)) → not (isEmpty (g .notes)) ≡ true → noErrors es ≡ false
+      some-error : (es : List TokenizeError) → errorBytes es ≡ g .notes ++ errorBytes (runErrors s (g .end)) → not (isEmpty (g .notes)) ≡ true → noErrors es ≡ false
       some-error (x ∷ es) e f = unfold noErrors in refl
       some-error [] e f = go (g .notes) (sym (unfold errorBytes in e)) f
         where
-          go : (ns : List ℕ) → ns ++ errorBytes (runErrors s (r .at)) ≡ [] → not (isEmpty ns) ≡ true → noErrors [] ≡ false
+          go : (ns : List ℕ) → ns ++ errorBytes (runErrors s (g .end)) ≡ [] → not (isEmpty ns) ≡ true → noErrors [] ≡ false
           go [] e f = unfold isEmpty in (absurd (true≢false (sym f)))
           go (n ∷ ns) e f = absurd (omega (arith, ap length e))
+
+-- ── By places ──
+
+-- The units from the place `from` to the place `c` were written, whatever lines and columns they have.
+abbrev pub RowingAt : List ℕ → ℕ → Bool → List ℕ → List ℕ → ℕ → ℕ → ℕ → Bool → Type 0
+RowingAt s from named out₀ out at c place name =
+    (p : Position) → p .offset ≡ from → Within s p → (q : Position) × (q .offset ≡ c) × Rowing s p named out₀ out at q place name
+
+pub row-begin : (s : List ℕ) (from : ℕ) (named : Bool) (out : List ℕ) (at : ℕ) → RowingAt s from named out out at from at named
+row-begin s from named out at p e w = (p, e, row-start s p named out at w)
+
+module _ (s : List ℕ) (from : ℕ) (named : Bool) (out₀ out : List ℕ) (at c place : ℕ) (name : Bool)
+    (y : RowingAt s from named out₀ out at c place name) (r : Step) (n : NextAt s c r) where
+  goes : r .over ≡ false → (q : Position) → q .offset ≡ c → Within s q → GoesOn s q r
+  goes o q d w = subst (λ (b : Bool). NextBy b s q r) o (n q d w)
+
+  pub row-on : r .over ≡ false → r .bad ≡ false → (out′ : List ℕ) (place′ : ℕ) (name′ : Bool)
+      → Put out out′ place (emittedPart name s (r .part)) place′ → name′ ≡ namedBehind name (r .part)
+      → RowingAt s from named out₀ out′ at (r .at) place′ name′
+  row-on o b out′ place′ name′ u v p e w =
+      let (q, d, z) = y p e w in
+      let g = goes o q d (row-within s p named out₀ out at q place name z) in
+      (g .end, g .ends, row-more s p named out₀ out at q place name z r g b out′ place′ name′ u v)
+
+  pub row-bad : r .over ≡ false → r .bad ≡ true → (p : Position) → p .offset ≡ from → Within s p → noErrors (runErrors s p) ≡ false
+  row-bad o b p e w =
+      let (q, d, z) = y p e w in
+      row-wrong s p named out₀ out at q place name z r (goes o q d (row-within s p named out₀ out at q place name z)) b
+
+  pub row-over : r .over ≡ true → (p : Position) → p .offset ≡ from → Within s p
+      → RowBy false s p named out₀ out at (record { at = c; out = place; named = name; bad = false })
+  row-over o p e w =
+      let (q, d, z) = y p e w in
+      let h = subst (λ (b : Bool). NextBy b s q r) o (n q d (row-within s p named out₀ out at q place name z)) in
+      (q, d, row-end s p named out₀ out at q place name z h)

@@ -31,7 +31,7 @@ use Rattle.prints.specs.Print.{literal, parting, isName}
 use Rattle.prints.specs.Writing.{outside, inString, onePiece, nameBehind}
 use Rattle.print_places.specs.Places.{still, stillOf, noErrors, rightFrom}
 use Rattle.print_places.proofs.Tokens.{piece-still, right-none, none-still, none-right, wrong-some, close-still, span-from}
-use Rattle.print_places.proofs.Things.{still-placed, right-placed}
+use Rattle.print_places.proofs.Elements.{still-placed, right-placed}
 
 -- ── Pieces of a string ──
 

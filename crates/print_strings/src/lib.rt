@@ -8,27 +8,25 @@ ghost use Rattle.characters.specs.Utf8.{charsAt};
 ghost use Rattle.rules.specs.Text.{ch};
 ghost use Rattle.rules.specs.Scan.{next, startsWith};
 ghost use Rattle.rules.specs.Script.{LIMIT};
-ghost use Rattle.bridge.specs.Bridge.{Within, exactly};
+ghost use Rattle.bridge.specs.Bridge.{placed, Within, exactly};
 ghost use Rattle.walks.specs.Walks.{quotes};
 ghost use Rattle.output.specs.Writing.{Put, PLACES};
 ghost use Rattle.prints.specs.Print.{literal, parting};
 ghost use Rattle.print_escapes.specs.Escapes.{MOST};
 ghost use Rattle.print_places.specs.Places as places;
 ghost use Rattle.text_parts.specs.Parts.{partBytes, PartWithin};
-ghost use Rattle.print_strings.specs.Strings.{shownPart, namedBehind, RowAt, InterpolationAt};
+ghost use Rattle.print_strings.specs.Strings.{emittedPart, namedBehind, RowAt, InterpolationAt};
 use print_places::Written;
-use print_places::placed;
-use spans::Position;
 use text_parts::Part;
 use text_parts::units;
 
 // The bytes of `\uD800`.
 const PARTING_BYTES: usize = 6;
 
-// What was written inside a string: where it ends, the place behind its bytes, whether a `$name` stands right before what follows, and
-// whether it has an error.
+// What was written inside a string: the place behind it, the place behind its bytes, whether a `$name` stands right before what follows,
+// and whether it has an error.
 pub struct Row {
-    pub at: Position,
+    pub at: usize,
     pub out: usize,
     pub named: bool,
     pub bad: bool,
@@ -61,9 +59,9 @@ fn put_bytes(
 fn put_part(s: &[u8], part: Part, plain: bool, named: bool, out: &mut [u8], at: usize) -> usize
     requires { ⌜ PartWithin (now s) part ⌝ }
     requires { ⌜ length (now s) ≤ LIMIT ⌝ }
-    requires { ⌜ (plain ≡ true → shownPart named (now s) part ≡ partBytes (now s) part) ⌝ }
+    requires { ⌜ (plain ≡ true → emittedPart named (now s) part ≡ partBytes (now s) part) ⌝ }
     requires { ⌜ at ≤ MOST ⌝ }
-    ensures { λ r. ⌜ Put (now (out .entry)) (now (out .exit)) at (shownPart named (now (s .entry)) part) r ⌝ }
+    ensures { λ r. ⌜ Put (now (out .entry)) (now (out .exit)) at (emittedPart named (now (s .entry)) part) r ⌝ }
 {
     match part {
         Part::Bytes(from, to) => put_bytes(s, from, to, plain, named, out, at),
@@ -83,13 +81,13 @@ fn is_named(named: bool, part: Part) -> bool
     }
 }
 
-// The units from p to where none stands.
-fn put_units(s: &[u8], p: Position, named: bool, out: &mut [u8], at: usize) -> Row
-    requires { ⌜ Within (now s) p ⌝ }
+// The units from a place to where none stands.
+fn put_units(s: &[u8], from: usize, named: bool, out: &mut [u8], at: usize) -> Row
+    requires { ⌜ Within (now s) (placed from) ⌝ }
     requires { ⌜ at ≤ MOST / 2 ⌝ }
-    ensures { λ r. ⌜ RowAt (now (s .entry)) p named (now (out .entry)) (now (out .exit)) at r ⌝ }
+    ensures { λ r. ⌜ RowAt (now (s .entry)) from named (now (out .entry)) (now (out .exit)) at r ⌝ }
 {
-    let mut c = p;
+    let mut c = from;
     let mut place = at;
     let mut name = named;
     loop {
@@ -129,21 +127,22 @@ fn put_parting(named: bool, out: &mut [u8], at: usize) -> usize
     at
 }
 
-// The interpolation whose dollar sign stands at p.
-fn put_interpolation(s: &[u8], p: Position, named: bool, out: &mut [u8], at: usize) -> Row
-    requires { ⌜ Within (now s) p ⌝ }
-    requires { ⌜ next (exactly (ch "$")) (charsAt (now s) (p .offset)) ≡ true ⌝ }
+// The interpolation whose dollar sign stands at a place.
+fn put_interpolation(s: &[u8], from: usize, named: bool, out: &mut [u8], at: usize) -> Row
+    requires { ⌜ Within (now s) (placed from) ⌝ }
+    requires { ⌜ next (exactly (ch "$")) (charsAt (now s) from) ≡ true ⌝ }
     requires { ⌜ at ≤ MOST ⌝ }
-    ensures { λ r. ⌜ InterpolationAt (now (s .entry)) p named (now (out .entry)) (now (out .exit)) at r ⌝ }
+    ensures { λ r. ⌜ InterpolationAt (now (s .entry)) from named (now (out .entry)) (now (out .exit)) at r ⌝ }
 {
-    let c = interpolations::past_interpolation(s, p);
+    let c = interpolations::past_interpolation(s, bridge::at_place(from));
     let q = c.at;
+    let to = q.offset;
     let found = c.found;
     let place = put_parting(named, out, at);
-    let end = output::put_part(s, p.offset, q.offset, out, place);
-    let braces = bridge::is_at(s, p.offset + 1, b'{');
+    let end = output::put_part(s, from, to, out, place);
+    let braces = bridge::is_at(s, from + 1, b'{');
     Row {
-        at: q,
+        at: to,
         out: end,
         named: !braces,
         bad: !found,
@@ -151,25 +150,21 @@ fn put_interpolation(s: &[u8], p: Position, named: bool, out: &mut [u8], at: usi
 }
 
 // A string that has an error.
-fn wrong(p: Position, out: usize) -> Written
+fn wrong(at: usize, out: usize) -> Written
     ensures { λ r. ⌜ r .bad ≡ true ⌝ }
 {
-    Written {
-        at: p.offset,
-        out,
-        bad: true,
-    }
+    Written { at, out, bad: true }
 }
 
 // The string whose opening quote stands at a place.
 pub fn put_string(s: &[u8], from: usize, out: &mut [u8], at: usize) -> Written
-    requires { ⌜ Within (now s) (places.placed from) ⌝ }
+    requires { ⌜ Within (now s) (placed from) ⌝ }
     requires { ⌜ next (exactly (ch "\"")) (charsAt (now s) from) ≡ true ⌝ }
     requires { ⌜ startsWith quotes (charsAt (now s) from) ≡ false ⌝ }
     requires { ⌜ at ≤ MOST / 4 ⌝ }
-    ensures { λ r. ⌜ places.ShownAt true (now (s .entry)) from (now (out .entry)) (now (out .exit)) at r ⌝ }
+    ensures { λ r. ⌜ places.EmittedAt true (now (s .entry)) from (now (out .entry)) (now (out .exit)) at r ⌝ }
 {
-    let mut c = bridge::along(placed(from), 1);
+    let mut c = from + 1;
     let mut place = output::put_byte(out, at, b'"');
     let mut named = false;
     loop {
@@ -178,14 +173,15 @@ pub fn put_string(s: &[u8], from: usize, out: &mut [u8], at: usize) -> Written
         if r.bad {
             return wrong(stop, r.out);
         }
-        if bridge::is_at(s, stop.offset, b'"') {
+        if bridge::is_at(s, stop, b'"') {
+            let behind = stop + 1;
             return Written {
-                at: stop.offset + 1,
+                at: behind,
                 out: output::put_byte(out, r.out, b'"'),
                 bad: false,
             };
         }
-        if !bridge::is_at(s, stop.offset, b'$') {
+        if !bridge::is_at(s, stop, b'$') {
             return wrong(stop, r.out);
         }
         let i = put_interpolation(s, stop, r.named, out, r.out);

@@ -1,3 +1,3 @@
 pub mod Spelled
 pub mod Ends
-pub mod Shown
+pub mod Emitted

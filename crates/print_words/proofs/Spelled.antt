@@ -19,16 +19,16 @@ use Rattle.classes.specs.Classes.{SLASH, DOLLAR, LETTER, DIGIT, classOf}
 use Rattle.words.specs.Words.{beginsWord, Begun}
 use Rattle.words.proofs.Segments.{dollar-segment, letter-segment, digit-segment}
 use Rattle.words.proofs.Begins.{is-mark}
-use Rattle.prints.specs.Things.{Word, lone, word}
-use Rattle.prints.specs.Print.{shown, isDoc}
-use Rattle.prints.proofs.Plain.{plainKind, shown-plain, plain-no-doc, Whole, number-whole, name-whole, mark-plain}
+use Rattle.prints.specs.Elements.{Word, lone, word}
+use Rattle.prints.specs.Print.{emitted, isDoc}
+use Rattle.prints.proofs.Plain.{plainKind, emitted-plain, plain-no-doc, Whole, number-whole, name-whole, mark-plain}
 use Rattle.prints.proofs.Grouped.{Kinds, mark-kinds, number-kinds, name-kinds}
 
 -- A segment of one token, which is printed as its characters, and is neither a doc comment nor EOF.
 record Own (g : Segment) : Type 0 where
   single : Word
   only : map word (g .pieces) ≡ single ∷ []
-  spelled : shown (lone single) ≡ g .chars
+  spelled : emitted (lone single) ≡ g .chars
   no-doc : isDoc (lone single) ≡ false
   no-eof : Kinds (g .pieces)
 
@@ -37,7 +37,7 @@ record Own (g : Segment) : Type 0 where
 whole-own : (g : Segment) → Whole g → Kinds (g .pieces) → Own g
 whole-own g (k, p, o, f, z) n =
     let w : Word = record { kind = k; text = g .chars } in
-    record { single = w; only = o; spelled = shown-plain w p; no-doc = plain-no-doc w p; no-eof = n }
+    record { single = w; only = o; spelled = emitted-plain w p; no-doc = plain-no-doc w p; no-eof = n }
 
 mark-own : (c : Char) (cs : Text) → parseMark c cs .faults ≡ [] → Own (parseMark c cs)
 mark-own c cs q =
@@ -96,8 +96,8 @@ module _ (s : List ℕ) (at k kind n e : ℕ) (w : Begun s at k) (x : WordAt s a
   is-itself : own .single ≡ itself
   is-itself = let o = own .only in cc
 
-  pub word-spelled : shown (lone itself) ≡ chars
-  word-spelled = ap (λ (v : Word). shown (lone v)) (sym is-itself) ∙ own .spelled
+  pub word-spelled : emitted (lone itself) ≡ chars
+  word-spelled = ap (λ (v : Word). emitted (lone v)) (sym is-itself) ∙ own .spelled
 
   pub word-no-doc : isDoc (lone itself) ≡ false
   word-no-doc = ap (λ (v : Word). isDoc (lone v)) (sym is-itself) ∙ own .no-doc

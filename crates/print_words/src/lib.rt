@@ -2,7 +2,7 @@
 ghost use mathlib.Core.Path.{_≡_};
 ghost use mathlib.Core.Bool.{true};
 ghost use Prim.Native.Nat.{_≤_};
-ghost use Rattle.bridge.specs.Bridge.{Within};
+ghost use Rattle.bridge.specs.Bridge.{placed, Within};
 ghost use Rattle.classes.specs.Classes.{classTable};
 ghost use Rattle.marks.specs.Marks.{markTable};
 ghost use Rattle.words.specs.Words.{Begun};
@@ -46,10 +46,10 @@ pub fn put_word(
 ) -> Written
     requires { ⌜ now classes ≡ classTable ⌝ }
     requires { ⌜ now marks ≡ markTable ⌝ }
-    requires { ⌜ Within (now text) (places.placed from) ⌝ }
+    requires { ⌜ Within (now text) (placed from) ⌝ }
     requires { ⌜ Begun (now text) from class ⌝ }
     requires { ⌜ at ≤ PLACES ⌝ }
-    ensures { λ r. ⌜ places.ShownAt true (now (text .entry)) from (now (out .entry)) (now (out .exit)) at r ⌝ }
+    ensures { λ r. ⌜ places.EmittedAt true (now (text .entry)) from (now (out .entry)) (now (out .exit)) at r ⌝ }
 {
     let end = word_end(classes, marks, text, from, class);
     Written {

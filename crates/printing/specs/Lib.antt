@@ -1,2 +1,3 @@
+pub mod Passes
 pub mod Printing
 pub mod Calls

@@ -1,6 +1,13 @@
 // The office print of a script.
+ghost use mathlib.Core.Path.{_≡_};
+ghost use mathlib.Core.Bool.{true};
+ghost use Prim.Native.Nat.{_≤_};
+ghost use lib.ListN.{length};
+ghost use Rattle.rules.specs.Script.{accepted};
+ghost use Rattle.printing.specs.Passes.{WalkedFront};
 ghost use Rattle.printing.specs.Printing.{Printed};
 use first_error::first_start;
+use print_loop::Walked;
 use print_loop::write;
 use questions::Asked;
 use questions::ask_text;
@@ -16,21 +23,32 @@ pub enum Answer {
     Refused(u64, u64),
 }
 
-// Prints a script into a lent buffer: after the questions 1 and 2 whether it has an error, and whether the buffer holds its print.
+// One pass of the print, over the first n bytes of a buffer; the others keep.
+fn write_front(script: &[u8], out: &mut [u8], n: usize) -> Walked
+    requires { ⌜ accepted (now script) ≡ true ⌝ }
+    requires { ⌜ n ≤ length (now out) ⌝ }
+    ensures { λ r. ⌜ WalkedFront (now (script .entry)) n (now (out .entry)) (now (out .exit)) r ⌝ }
+{
+    write(script, &mut out[..n])
+}
+
+// Prints a script into a lent buffer: after the questions 1 and 2 whether it has an error, and whether the buffer holds its print. The first
+// pass writes no byte: it finds an error, and counts the bytes.
 pub fn print(script: &[u8], out: &mut [u8]) -> Answer
     ensures { λ r. ⌜ Printed (now (script .entry)) (now (out .entry)) r (now (out .exit)) ⌝ }
 {
     if let Asked::No(number, figure) = ask_text(script) {
         return Answer::Refused(number, figure);
     }
-    let mut none = [0u8; 0];
-    let w = write(script, &mut none);
+    let size = out.len();
+    let w = write_front(script, out, 0);
+    let short = size < w.bytes;
     if w.bad {
         return Answer::Refused(REFUSED_MISTAKE, first_start(script) as u64);
     }
-    if out.len() < w.bytes {
+    if short {
         return Answer::Refused(REFUSED_PRINT, w.bytes as u64);
     }
-    write(script, out);
+    write_front(script, out, w.bytes);
     Answer::Done(w.bytes)
 }

@@ -1,4 +1,4 @@
--- The print can be written byte by byte: what is escaped is below U+0080, so the print's bytes are the layout of the things with their
+-- The print can be written byte by byte: what is escaped is below U+0080, so the print's bytes are the layout of the elements with their
 -- texts as bytes. Assumes nothing.
 use mathlib.Core.Path.{_≡_, refl, sym, ap, ap₂, _∙_}
 use mathlib.Core.Logic.{_⊎_, inl, inr}
@@ -24,8 +24,8 @@ use Rattle.rules.specs.Bounds.{Every}
 use Rattle.rules.proofs.Every.{every-append}
 use Rattle.rules.proofs.Sizes.{width-low}
 use Rattle.rules.proofs.Fits.{encode-ascii}
-use Rattle.prints.specs.Things.{Word, Thing, lone, things, wordBytes, thingBytes, scriptThings, string}
-use Rattle.prints.specs.Print.{hexDigit, unicode, escaped, escapes, isWord, parting, isName, pieces, character, docLines, doc, shown, isDoc, gap, layout, printText, printBytes, literal}
+use Rattle.prints.specs.Elements.{Word, Element, lone, elements, wordBytes, elementBytes, scriptElements, string}
+use Rattle.prints.specs.Print.{hexDigit, unicode, escaped, escapes, isWord, parting, isName, pieces, character, docLines, doc, emitted, isDoc, gap, layout, printText, printBytes, literal}
 use Rattle.prints.proofs.Facts.{and-no}
 use Rattle.prints.proofs.Strung.{word-parts, word-small}
 use Rattle.prints.proofs.Valid.{hex-low, low-text}
@@ -296,35 +296,35 @@ doc-encode t =
 
 -- ── The layout ──
 
-pub shown-encode : (x : Thing) → shown (thingBytes x) ≡ encode (shown x)
-unfolding shown
-shown-encode (string ws) = quoted-encode (text "\"") (pieces false (map wordBytes ws)) (pieces false ws) (low-text (text "\"") refl) (pieces-encode false ws)
-shown-encode (lone w) =
+pub emitted-encode : (x : Element) → emitted (elementBytes x) ≡ encode (emitted x)
+unfolding emitted
+emitted-encode (string ws) = quoted-encode (text "\"") (pieces false (map wordBytes ws)) (pieces false ws) (low-text (text "\"") refl) (pieces-encode false ws)
+emitted-encode (lone w) =
     let R : Text → Text → Type 0 = λ a b. a ≡ encode b in
     if-both R (w .kind is CharLiteral) (λ _. character-encode (w .text))
     (λ _. if-both R (w .kind is DoubleColonT) (λ _. sym (encode-ascii (text ":=") (low-text (text ":=") refl)))
     (λ _. if-both R (w .kind is StringInterpStart) (λ _. sym (encode-ascii (text "${}") (low-text (text "${}") refl)))
     (λ _. if-both R (w .kind is DocComment) (λ _. doc-encode (w .text)) (λ _. refl))))
 
-doc-same : (x : Thing) → isDoc (thingBytes x) ≡ isDoc x
+doc-same : (x : Element) → isDoc (elementBytes x) ≡ isDoc x
 unfolding isDoc
 doc-same (string ws) = refl
 doc-same (lone w) = refl
 
-gap-encode : (d : Bool) (ts : List Thing) → gap d (map thingBytes ts) ≡ encode (gap d ts)
+gap-encode : (d : Bool) (ts : List Element) → gap d (map elementBytes ts) ≡ encode (gap d ts)
 unfolding gap
 gap-encode true ts = sym (encode-ascii (LF ∷ []) (low-text (LF ∷ []) refl))
 gap-encode false [] = unfold encode in refl
 gap-encode false (t ∷ ts) = sym (encode-ascii (text " ") (low-text (text " ") refl))
 
-layout-encode : (ts : List Thing) → layout (map thingBytes ts) ≡ encode (layout ts)
+layout-encode : (ts : List Element) → layout (map elementBytes ts) ≡ encode (layout ts)
 unfolding layout
 layout-encode [] = unfold encode in refl
 layout-encode (t ∷ ts) =
-    ap (λ d. shown (thingBytes t) ++ (gap d (map thingBytes ts) ++ layout (map thingBytes ts))) (doc-same t)
-    ∙ (ap₂ (λ a b. a ++ b) (shown-encode t) (ap₂ (λ a b. a ++ b) (gap-encode (isDoc t) ts) (layout-encode ts) ∙ sym (encode-append (gap (isDoc t) ts) (layout ts)))
-    ∙ sym (encode-append (shown t) (gap (isDoc t) ts ++ layout ts)))
+    ap (λ d. emitted (elementBytes t) ++ (gap d (map elementBytes ts) ++ layout (map elementBytes ts))) (doc-same t)
+    ∙ (ap₂ (λ a b. a ++ b) (emitted-encode t) (ap₂ (λ a b. a ++ b) (gap-encode (isDoc t) ts) (layout-encode ts) ∙ sym (encode-append (gap (isDoc t) ts) (layout ts)))
+    ∙ sym (encode-append (emitted t) (gap (isDoc t) ts ++ layout ts)))
 
-pub print-by-bytes : (s : List ℕ) → printBytes s ≡ layout (scriptThings s)
-unfolding printBytes printText scriptThings
-print-by-bytes s = sym (layout-encode (things (scriptText s)))
+pub print-by-bytes : (s : List ℕ) → printBytes s ≡ layout (scriptElements s)
+unfolding printBytes printText scriptElements
+print-by-bytes s = sym (layout-encode (elements (scriptText s)))

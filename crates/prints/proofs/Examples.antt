@@ -20,9 +20,9 @@ use Rattle.rules.specs.Docs.{trimStart, trimEnd, trim, stripStars, addToFirst, 
 use Rattle.rules.specs.Lexer.{dollarBraces, parseDollar, segment, segments}
 use Rattle.rules.specs.Script.{scriptText}
 use Rattle.prints.specs.Examples.{Example, EXAMPLES}
-use Rattle.prints.specs.Things.{thingsOf, thingsIn, things, scriptThings}
-use Rattle.prints.specs.Print.{hexDigit, unicode, escaped, escapes, isWord, literal, parting, isName, pieces, character, docLines, doc, shown, isDoc, gap, layout, printText, printBytes}
+use Rattle.prints.specs.Elements.{elementsOf, elementsIn, elements, scriptElements}
+use Rattle.prints.specs.Print.{hexDigit, unicode, escaped, escapes, isWord, literal, parting, isName, pieces, character, docLines, doc, emitted, isDoc, gap, layout, printText, printBytes}
 
 pub examples-print : map (λ (r : Example). printBytes (encode (r .script))) EXAMPLES ≡ map (λ (r : Example). encode (r .print)) EXAMPLES
-unfolding EXAMPLES within isTail secondOk twoOf threeOf fourOf sequence firstOf afterChar charsPast charsOf width encodeChar encode bytes isWhite hasMark markLength afterMark oneOf isEmpty sameText isDigit isLetter isHexDigit isIdentStart isIdentPart hexValue next startsWith run oneChar upTo KEYWORDS keywordIn lookupKeyword MARKS THIRDS ESCAPES lookup wordEnd whiteSpace lineComment blockComment hexPart binaryPart radix isDigitOrUnderscore fraction exponent decimalKind decimal zeroThen parseNumber parseIdentifierOrKeyword unexpected spelling twoMarks markWith markIn parseMark parseRawString hexCode charOf unicodeEscape plainEscape escape stringRanOut stringBroken stringEnded flush otherEscape stringEscape braceInterp nameInterp isInterpStart stringDollar turn stringFrom parseStringTokens parseQuote closeChar charEscape parseChar trimStart trimEnd trim stripStars addToFirst lines joinLines cleanLine cleanDoc lineDoc blockDoc parseSlashOrComment dollarBraces parseDollar segment segments scriptText thingsOf thingsIn things scriptThings hexDigit unicode escaped escapes isWord literal parting isName pieces character docLines doc shown isDoc gap layout printText printBytes
+unfolding EXAMPLES within isTail secondOk twoOf threeOf fourOf sequence firstOf afterChar charsPast charsOf width encodeChar encode bytes isWhite hasMark markLength afterMark oneOf isEmpty sameText isDigit isLetter isHexDigit isIdentStart isIdentPart hexValue next startsWith run oneChar upTo KEYWORDS keywordIn lookupKeyword MARKS THIRDS ESCAPES lookup wordEnd whiteSpace lineComment blockComment hexPart binaryPart radix isDigitOrUnderscore fraction exponent decimalKind decimal zeroThen parseNumber parseIdentifierOrKeyword unexpected spelling twoMarks markWith markIn parseMark parseRawString hexCode charOf unicodeEscape plainEscape escape stringRanOut stringBroken stringEnded flush otherEscape stringEscape braceInterp nameInterp isInterpStart stringDollar turn stringFrom parseStringTokens parseQuote closeChar charEscape parseChar trimStart trimEnd trim stripStars addToFirst lines joinLines cleanLine cleanDoc lineDoc blockDoc parseSlashOrComment dollarBraces parseDollar segment segments scriptText elementsOf elementsIn elements scriptElements hexDigit unicode escaped escapes isWord literal parting isName pieces character docLines doc emitted isDoc gap layout printText printBytes
 examples-print = refl

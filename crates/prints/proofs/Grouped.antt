@@ -1,4 +1,4 @@
--- How tokens tell the things of a script: the pieces of a string share its start, at which a quote stands; every other token starts
+-- How tokens tell the elements of a script: the pieces of a string share its start, at which a quote stands; every other token starts
 -- for itself, where no quote stands. Assumes nothing.
 use mathlib.Core.Path.{_≡_, refl, sym, _∙_, ap₂, ap}
 use mathlib.Core.Logic.{_⊎_, inl, inr}
@@ -41,7 +41,7 @@ use Rattle.rules.proofs.Sources.{allRows, found-right}
 use Rattle.rules.proofs.Sizes.{chars-low}
 use Rattle.rules.proofs.Starts.{AllAt, isPiece, AllPieces, string-pieces}
 use Rattle.rules.proofs.Fits.{scriptBody, script-bytes}
-use Rattle.prints.specs.Things.{Thing, lone, string, tokenWord, word, thingsOf, thingsIn, things, wordBytes, thingBytes, scriptThings}
+use Rattle.prints.specs.Elements.{Element, lone, string, tokenWord, word, elementsOf, elementsIn, elements, wordBytes, elementBytes, scriptElements}
 use Rattle.prints.specs.Records.{quoteAt}
 use Rattle.prints.proofs.Printed.{white-no-quote}
 use Rattle.prints.proofs.Bytewise.{BytesOf, low, high, bytes-of-char}
@@ -65,16 +65,16 @@ pub piece-no-doc : (k : ℕ) → isPiece k ≡ true → (k is DocComment) ≡ fa
 unfolding isPiece
 piece-no-doc k e = piece-not k DocComment refl e
 
--- The tokens, which all start at `n` or behind it, are those of the things; `quoted` says at which places a quote stands.
-pub data Grouped (quoted : ℕ → Bool) : ℕ → List Token → List Thing → Type 0 where
+-- The tokens, which all start at `n` or behind it, are those of the elements; `quoted` says at which places a quote stands.
+pub data Grouped (quoted : ℕ → Bool) : ℕ → List Token → List Element → Type 0 where
   no-more : {n : ℕ} → Grouped quoted n [] []
-  alone : {n : ℕ} (t : Token) {ts : List Token} {xs : List Thing} → n ≤ t .span .start → quoted (t .span .start) ≡ false → NoEof t
+  alone : {n : ℕ} (t : Token) {ts : List Token} {xs : List Element} → n ≤ t .span .start → quoted (t .span .start) ≡ false → NoEof t
       → Grouped quoted (suc (t .span .start)) ts xs → Grouped quoted n (t ∷ ts) (lone (tokenWord t) ∷ xs)
-  strung : {n : ℕ} (m : ℕ) (t : Token) (g : List Token) {ts : List Token} {xs : List Thing} → n ≤ m → quoted m ≡ true
+  strung : {n : ℕ} (m : ℕ) (t : Token) (g : List Token) {ts : List Token} {xs : List Element} → n ≤ m → quoted m ≡ true
       → AllAt m (t ∷ g) → Every IsPiece (t ∷ g) → Grouped quoted (suc m) ts xs
       → Grouped quoted n (t ∷ (g ++ ts)) (string (tokenWord t ∷ map tokenWord g) ∷ xs)
 
-grouped-weaken : {q : ℕ → Bool} (m n : ℕ) {ts : List Token} {xs : List Thing} → m ≤ n → Grouped q n ts xs → Grouped q m ts xs
+grouped-weaken : {q : ℕ → Bool} (m n : ℕ) {ts : List Token} {xs : List Element} → m ≤ n → Grouped q n ts xs → Grouped q m ts xs
 grouped-weaken m n h no-more = no-more
 grouped-weaken m n h (alone t a b c g) = alone {n = m} t (omega arith) b c g
 grouped-weaken m n h (strung k t g a b c d r) = strung {n = m} k t g (omega arith) b c d r
@@ -298,7 +298,7 @@ unfolding tokensOf
 tokens-pieces p s [] h = tt
 tokens-pieces p s (x ∷ xs) h = (h .0, tokens-pieces p s xs (h .1))
 
-module _ (q : ℕ → Bool) (p : Position) (s : Segment) (n : ℕ) (ts : List Token) (xs : List Thing) (far : suc (p .offset) ≤ n) (more : Grouped q n ts xs) where
+module _ (q : ℕ → Bool) (p : Position) (s : Segment) (n : ℕ) (ts : List Token) (xs : List Element) (far : suc (p .offset) ≤ n) (more : Grouped q n ts xs) where
   string-grouped : q (p .offset) ≡ true → (ps : List Piece) → 1 ≤ length ps → AllPieces ps
       → Grouped q (p .offset) (map asBytes (tokensOf p s ps) ++ ts) (string (map wordBytes (map word ps)) ∷ xs)
   string-grouped e [] l h = absurd (omega arith)
@@ -312,7 +312,7 @@ module _ (q : ℕ → Bool) (p : Position) (s : Segment) (n : ℕ) (ts : List To
       strings (t ∷ g) l a h = strung {n = p .offset} (p .offset) t g (omega arith) e a h (grouped-weaken (suc (p .offset)) n far more)
 
   lone-grouped : q (p .offset) ≡ false → (ps : List Piece) → length ps ≤ 1 → Kinds ps
-      → Grouped q (p .offset) (map asBytes (tokensOf p s ps) ++ ts) (map thingBytes (map (λ x. lone (word x)) ps) ++ xs)
+      → Grouped q (p .offset) (map asBytes (tokensOf p s ps) ++ ts) (map elementBytes (map (λ x. lone (word x)) ps) ++ xs)
   unfolding tokensOf
   lone-grouped e [] l h = grouped-weaken (p .offset) n (omega arith) more
   lone-grouped e (x ∷ []) l h =
@@ -323,13 +323,13 @@ module _ (q : ℕ → Bool) (p : Position) (s : Segment) (n : ℕ) (ts : List To
   lone-grouped e (x ∷ y ∷ ps) l h = absurd (omega arith)
 
   segment-grouped : q (p .offset) ≡ startsWith (text "\"") (s .chars) → Told s
-      → Grouped q (p .offset) (map asBytes (tokensOf p s (s .pieces)) ++ ts) (map thingBytes (thingsOf s) ++ xs)
-  unfolding thingsOf
+      → Grouped q (p .offset) (map asBytes (tokensOf p s (s .pieces)) ++ ts) (map elementBytes (elementsOf s) ++ xs)
+  unfolding elementsOf
   segment-grouped e t = go (startsWith (text "\"") (s .chars)) refl
     where
       go : (b : Bool) → startsWith (text "\"") (s .chars) ≡ b
           → Grouped q (p .offset) (map asBytes (tokensOf p s (s .pieces)) ++ ts)
-          (map thingBytes (if b then string (map word (s .pieces)) ∷ [] else map (λ x. lone (word x)) (s .pieces)) ++ xs)
+          (map elementBytes (if b then string (map word (s .pieces)) ∷ [] else map (λ x. lone (word x)) (s .pieces)) ++ xs)
       go true f = string-grouped (e ∙ f) (s .pieces) (t .some-token f) (t .strings f)
       go false f = lone-grouped (e ∙ f) (s .pieces) (t .few f) (t .kinds f)
 
@@ -352,8 +352,8 @@ quote-at pre c cs = go (bytes-of-char c)
 
 module _ (A : Text) where
   lex-grouped : (k : ℕ) (pre : Text) (p : Position) (cs : Text) → k ≤ length cs → A ≡ pre ++ drop k cs → p .offset ≡ bytes pre
-      → Grouped (quoteAt (encode A)) (p .offset) (map asBytes (lex k p cs .body)) (map thingBytes (thingsIn (segments k cs)))
-  unfolding segments place thingsIn
+      → Grouped (quoteAt (encode A)) (p .offset) (map asBytes (lex k p cs .body)) (map elementBytes (elementsIn (segments k cs)))
+  unfolding segments place elementsIn
   lex-grouped k pre p [] h e o = no-more
   lex-grouped (suc k) pre p (c ∷ cs) h e o = lex-grouped k pre p cs (omega arith) e o
   lex-grouped zero pre p (c ∷ cs) h e o =
@@ -361,7 +361,7 @@ module _ (A : Text) where
       let w = segment-takes c cs in
       let size = sizeBehindFirst (s .chars) in
       let body = lex size (after p s) cs .body in
-      let xs = thingsIn (segments size cs) in
+      let xs = elementsIn (segments size cs) in
       let split : c ∷ cs ≡ s .chars ++ drop size cs
       = ap (λ (t : Text). c ∷ t) (sym (w .split)) ∙ (ap (λ (t : Text). t ++ w .rest) (sym (w .took)) ∙ ap (λ (t : Text). s .chars ++ t) (sym (rest-is c cs))) in
       let e′ : A ≡ pre ++ s .chars ++ drop size cs = e ∙ (ap (λ (t : Text). pre ++ t) split ∙ sym (append-assoc pre (s .chars) _)) in
@@ -370,15 +370,15 @@ module _ (A : Text) where
       let here : quoteAt (encode A) (p .offset) ≡ startsWith (text "\"") (s .chars)
       = ap₂ (λ (t : Text) (n : ℕ). quoteAt (encode t) n) e o ∙ (quote-at pre c cs ∙ sym (begins s c (w .more) (w .took))) in
       let more = lex-grouped size (pre ++ s .chars) (after p s) cs (size-fits c cs) e′ o′ in
-      rw (map-append asBytes (tokensOf p s (s .pieces)) body, map-append thingBytes (thingsOf s) xs)
-      (segment-grouped (quoteAt (encode A)) p s (after p s .offset) (map asBytes body) (map thingBytes xs) far more here (segment-told c cs))
+      rw (map-append asBytes (tokensOf p s (s .pieces)) body, map-append elementBytes (elementsOf s) xs)
+      (segment-grouped (quoteAt (encode A)) p s (after p s .offset) (map asBytes body) (map elementBytes xs) far more here (segment-told c cs))
 
-  -- The tokens of a text, with their texts as bytes, tell its things.
-  pub text-grouped : Grouped (quoteAt (encode A)) 0 (map asBytes (lexed A .body)) (map thingBytes (things A))
-  unfolding bytes things
+  -- The tokens of a text, with their texts as bytes, tell its elements.
+  pub text-grouped : Grouped (quoteAt (encode A)) 0 (map asBytes (lexed A .body)) (map elementBytes (elements A))
+  unfolding bytes elements
   text-grouped = lex-grouped 0 [] origin A zero-le refl refl
 
--- The tokens of an accepted script tell its things.
-pub script-grouped : (s : List ℕ) → accepted s ≡ true → Grouped (quoteAt (afterMark s)) 0 (scriptBody s) (scriptThings s)
-unfolding scriptThings
+-- The tokens of an accepted script tell its elements.
+pub script-grouped : (s : List ℕ) → accepted s ≡ true → Grouped (quoteAt (afterMark s)) 0 (scriptBody s) (scriptElements s)
+unfolding scriptElements
 script-grouped s ok = rw (← (script-bytes s ok)) (text-grouped (scriptText s))

@@ -21,8 +21,8 @@ use Rattle.rules.specs.Lexer.{parseDollar}
 use Rattle.rules.proofs.Ahead.{or-left, or-right, and-left, and-right}
 use Rattle.rules.proofs.Front.{number-takes, mark-takes, Takes, name-takes, start-part}
 use Rattle.rules.proofs.Sources.{allRows, found-right, same-text}
-use Rattle.prints.specs.Things.{Word, lone, word}
-use Rattle.prints.specs.Print.{shown, isDoc}
+use Rattle.prints.specs.Elements.{Word, lone, word}
+use Rattle.prints.specs.Print.{emitted, isDoc}
 use Rattle.prints.proofs.Facts.{is-same}
 use Rattle.prints.proofs.Laid.{Follows, space, end}
 use Rattle.prints.proofs.Again.{follow-next, follow-starts, next-keeps, number-again, name-again}
@@ -34,7 +34,7 @@ pub record Plain (c : Char) (s : Segment) (again : Text → Segment) : Type 0 wh
   pub same : (Y : Text) → Follows false Y → again (more ++ Y) ≡ s
   pub token : Word
   pub only : map word (s .pieces) ≡ token ∷ []
-  pub spelled : shown (lone token) ≡ s .chars
+  pub spelled : emitted (lone token) ≡ s .chars
   pub no-doc : isDoc (lone token) ≡ false
   pub right : s .faults ≡ []
   pub shut : s .open-end ≡ false
@@ -58,9 +58,9 @@ four-not k e =
     let q₂ = or-right (k is DoubleColonT) _ q₁ in
     record { three = or-left (k is CharLiteral) _ q; assign = or-left (k is DoubleColonT) _ q₁; dollar = or-left (k is StringInterpStart) _ q₂; doc = or-left (k is DocComment) false (or-right (k is StringInterpStart) _ q₂) }
 
-pub shown-plain : (w : Word) → plainKind (w .kind) ≡ true → shown (lone w) ≡ w .text
-unfolding shown
-shown-plain w e = let f = four-not (w .kind) e in rw (f .three, f .assign, f .dollar, f .doc)
+pub emitted-plain : (w : Word) → plainKind (w .kind) ≡ true → emitted (lone w) ≡ w .text
+unfolding emitted
+emitted-plain w e = let f = four-not (w .kind) e in rw (f .three, f .assign, f .dollar, f .doc)
 
 pub plain-no-doc : (w : Word) → plainKind (w .kind) ≡ true → isDoc (lone w) ≡ false
 unfolding isDoc
@@ -117,7 +117,7 @@ whole-plain f c cs t h again =
       same = λ Y g. ap (λ x. f (x ++ Y)) (sym (t .took)) ∙ again Y g;
       token = w;
       only = h .2;
-      spelled = shown-plain w (h .1);
+      spelled = emitted-plain w (h .1);
       no-doc = plain-no-doc w (h .1);
       right = h .3;
       shut = h .4;
@@ -135,11 +135,11 @@ name-plain c cs e =
 
 lone-plain : (k : ℕ) (c : Char) (again : Text → Segment) → plainKind k ≡ true → ((Y : Text) → Follows false Y → again Y ≡ wordToken k (c ∷ [])) → Plain c (wordToken k (c ∷ [])) again
 lone-plain k c again e f =
-    record { more = []; took = refl; same = f; token = record { kind = k; text = c ∷ [] }; only = refl; spelled = shown-plain _ e; no-doc = plain-no-doc _ e; right = refl; shut = refl }
+    record { more = []; took = refl; same = f; token = record { kind = k; text = c ∷ [] }; only = refl; spelled = emitted-plain _ e; no-doc = plain-no-doc _ e; right = refl; shut = refl }
 
 -- Two marks are printed as they are, and so are three.
 pairPlain : Char → Char → ℕ → Option ℕ → Bool
-pairPlain c d k none = sameText (shown (lone (record { kind = k; text = spelling k c d }))) (c ∷ d ∷ []) && not (isDoc (lone (record { kind = k; text = [] })))
+pairPlain c d k none = sameText (emitted (lone (record { kind = k; text = spelling k c d }))) (c ∷ d ∷ []) && not (isDoc (lone (record { kind = k; text = [] })))
 pairPlain c d k (some third) = plainKind third && plainKind k
 
 columnPlain : Char → Char → ℕ → Bool
@@ -167,8 +167,8 @@ two-plain k none c d cs again f e n =
       same = λ Y h. f Y;
       token = w;
       only = refl;
-      spelled = same-text (shown (lone w)) (c ∷ d ∷ []) (and-left (sameText (shown (lone w)) (c ∷ d ∷ [])) (not (k is DocComment)) e);
-      no-doc = not-true (k is DocComment) (and-right (sameText (shown (lone w)) (c ∷ d ∷ [])) (not (k is DocComment)) e);
+      spelled = same-text (emitted (lone w)) (c ∷ d ∷ []) (and-left (sameText (emitted (lone w)) (c ∷ d ∷ [])) (not (k is DocComment)) e);
+      no-doc = not-true (k is DocComment) (and-right (sameText (emitted (lone w)) (c ∷ d ∷ [])) (not (k is DocComment)) e);
       right = refl;
       shut = refl;
     }
@@ -182,7 +182,7 @@ two-plain k (some third) c d cs again f e n =
       same = λ Y h. f (d ∷ Y) ∙ rw (starts-same-mark d Y);
       token = w₃;
       only = refl;
-      spelled = shown-plain w₃ (and-left (plainKind third) (plainKind k) e);
+      spelled = emitted-plain w₃ (and-left (plainKind third) (plainKind k) e);
       no-doc = plain-no-doc w₃ (and-left (plainKind third) (plainKind k) e);
       right = refl;
       shut = refl;
@@ -193,7 +193,7 @@ two-plain k (some third) c d cs again f e n =
       same = λ Y h. f Y ∙ rw (follow-starts d [] n h);
       token = w₂;
       only = refl;
-      spelled = shown-plain w₂ (and-right (plainKind third) (plainKind k) e);
+      spelled = emitted-plain w₂ (and-right (plainKind third) (plainKind k) e);
       no-doc = plain-no-doc w₂ (and-right (plainKind third) (plainKind k) e);
       right = refl;
       shut = refl;
@@ -205,7 +205,7 @@ is-none none e = refl
 is-none (some a) e = absurd (false≢true e)
 
 mark-found : (c : Char) (r : Row) → lookup c MARKS ≡ some r → markPlain c r ≡ true
-unfolding MARKS THIRDS allRows markPlain columnPlain pairPlain isNone plainKind oneOf spelling shown isDoc lookup sameText
+unfolding MARKS THIRDS allRows markPlain columnPlain pairPlain isNone plainKind oneOf spelling emitted isDoc lookup sameText
 mark-found c r e = found-right markPlain c MARKS r refl e
 
 mark-alone : (c : Char) (r : Row) → lookup c MARKS ≡ some r → markPlain c r ≡ true → {Y : Text} → Follows false Y → parseMark c Y ≡ wordToken (r .alone) (c ∷ [])

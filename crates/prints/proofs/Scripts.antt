@@ -19,10 +19,10 @@ use Rattle.rules.specs.Lexer.{origin, lexed, eof, tokens, errors, closed}
 use Rattle.rules.specs.Script.{LIMIT, accepted, scriptText, asBytes, scriptTokens, scriptErrors, scriptClosed}
 use Rattle.rules.proofs.Ahead.{is-eq}
 use Rattle.rules.proofs.Fits.{script-size}
-use Rattle.prints.specs.Things.{Thing, lone, string, things, tokenWord, wordsOf, wordBytes, thingBytes, scriptThings}
+use Rattle.prints.specs.Elements.{Element, lone, string, elements, tokenWord, wordsOf, wordBytes, elementBytes, scriptElements}
 use Rattle.prints.specs.Print.{printText, printBytes}
 use Rattle.prints.specs.Reprint.{Reprints}
-use Rattle.prints.proofs.Laid.{things-words}
+use Rattle.prints.proofs.Laid.{elements-words}
 use Rattle.prints.proofs.Printed.{print-same, print-again, print-unmarked}
 use Rattle.prints.proofs.Valid.{print-valid}
 use Rattle.prints.proofs.Size.{print-size}
@@ -72,21 +72,21 @@ words-bytes : (ts : List Token) → map tokenWord (map asBytes ts) ≡ map wordB
 words-bytes [] = refl
 words-bytes (t ∷ ts) = ap (λ ws. wordBytes (tokenWord t) ∷ ws) (words-bytes ts)
 
-things-bytes : (ts : List Thing) → wordsOf (map thingBytes ts) ≡ map wordBytes (wordsOf ts)
+elements-bytes : (ts : List Element) → wordsOf (map elementBytes ts) ≡ map wordBytes (wordsOf ts)
 unfolding wordsOf
-things-bytes [] = refl
-things-bytes (lone w ∷ ts) = ap (λ ws. wordBytes w ∷ ws) (things-bytes ts)
-things-bytes (string xs ∷ ts) = ap (λ ws. map wordBytes xs ++ ws) (things-bytes ts) ∙ sym (map-append wordBytes xs (wordsOf ts))
+elements-bytes [] = refl
+elements-bytes (lone w ∷ ts) = ap (λ ws. wordBytes w ∷ ws) (elements-bytes ts)
+elements-bytes (string xs ∷ ts) = ap (λ ws. map wordBytes xs ++ ws) (elements-bytes ts) ∙ sym (map-append wordBytes xs (wordsOf ts))
 
--- The kinds and texts of a script's things are those of its tokens, and then EOF's.
-pub script-words : (s : List ℕ) → map tokenWord (scriptTokens s) ≡ wordsOf (scriptThings s) ++ (record { kind = EOF; text = [] } ∷ [])
-unfolding scriptTokens scriptThings tokens things encode
+-- The kinds and texts of a script's elements are those of its tokens, and then EOF's.
+pub script-words : (s : List ℕ) → map tokenWord (scriptTokens s) ≡ wordsOf (scriptElements s) ++ (record { kind = EOF; text = [] } ∷ [])
+unfolding scriptTokens scriptElements tokens elements encode
 script-words s =
     let A = scriptText s in
     words-bytes (lexed A .body ++ (eof (lexed A .stop) ∷ []))
     ∙ (ap (map wordBytes) (map-append tokenWord (lexed A .body) (eof (lexed A .stop) ∷ []))
     ∙ (map-append wordBytes (map tokenWord (lexed A .body)) _
-    ∙ ap (λ ws. ws ++ (record { kind = EOF; text = [] } ∷ [])) (ap (map wordBytes) (things-words 0 origin A) ∙ sym (things-bytes (things A)))))
+    ∙ ap (λ ws. ws ++ (record { kind = EOF; text = [] } ∷ [])) (ap (map wordBytes) (elements-words 0 origin A) ∙ sym (elements-bytes (elements A)))))
 
 -- ── The theorems ──
 
@@ -98,10 +98,10 @@ print-accepted : (s : List ℕ) → length (printBytes s) ≤ LIMIT → accepted
 unfolding accepted
 print-accepted s fits = rw (le-leb (length (printBytes s)) LIMIT fits, print-utf8 s)
 
-pub script-same : (s : List ℕ) → scriptErrors s ≡ [] → scriptThings (printBytes s) ≡ scriptThings s
-unfolding scriptThings
+pub script-same : (s : List ℕ) → scriptErrors s ≡ [] → scriptElements (printBytes s) ≡ scriptElements s
+unfolding scriptElements
 script-same s e =
-    ap (λ t. map thingBytes (things t)) (print-text s e) ∙ ap (map thingBytes) (print-same (scriptText s) (text-right s e) .same-things)
+    ap (λ t. map elementBytes (elements t)) (print-text s e) ∙ ap (map elementBytes) (print-same (scriptText s) (text-right s e) .same-elements)
 
 pub script-again : (s : List ℕ) → scriptErrors s ≡ [] → printBytes (printBytes s) ≡ printBytes s
 unfolding printBytes
@@ -112,7 +112,7 @@ unfolding scriptErrors scriptClosed
 script-reprints s ok e fits =
     let p = printBytes s in
     let good : accepted p ≡ true = print-accepted s fits in
-    let same : scriptThings p ≡ scriptThings s = script-same s e in
+    let same : scriptElements p ≡ scriptElements s = script-same s e in
     let again = print-same (scriptText s) (text-right s e) in
     record {
       is-accepted = good;
@@ -123,7 +123,7 @@ script-reprints s ok e fits =
           script-words p ∙ (ap (λ ts. wordsOf ts ++ (record { kind = EOF; text = [] } ∷ [])) same ∙ sym (script-words s));
       same-groups = same-continues s p ok good same;
       same-inside = same-insides s p ok good same;
-      same-things = same;
+      same-elements = same;
       prints-again = script-again s e;
     }
 

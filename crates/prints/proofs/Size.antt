@@ -30,14 +30,14 @@ use Rattle.rules.proofs.Front.{quote-takes, start-part}
 use Rattle.rules.specs.Bounds.{charsOfAll}
 use Rattle.rules.proofs.Bounds.{segments-are-text}
 use Rattle.rules.proofs.Sizes.{width-high, width-low, brace-taken, run-taken, lineBytes, lines-bytes, trim-bytes, cleaner-bytes, chars-few}
-use Rattle.prints.specs.Things.{Word, Thing, lone, string, word, thingsOf, thingsIn, things}
-use Rattle.prints.specs.Print.{hexDigit, unicode, escaped, escapes, isWord, literal, isName, pieces, character, docLines, doc, shown, isDoc, gap, layout, printText, parting}
+use Rattle.prints.specs.Elements.{Word, Element, lone, string, word, elementsOf, elementsIn, elements}
+use Rattle.prints.specs.Print.{hexDigit, unicode, escaped, escapes, isWord, literal, isName, pieces, character, docLines, doc, emitted, isDoc, gap, layout, printText, parting}
 use Rattle.prints.proofs.Facts.{or-case, within-le}
 use Rattle.prints.proofs.Laid.{NoFaults, errors-faults}
 use Rattle.prints.proofs.Plain.{Plain, name-plain, number-plain, mark-plain, no-comment, slash-plain, dollar-plain}
 use Rattle.prints.proofs.Strung.{word-parts, interp-start}
 use Rattle.prints.proofs.Signs.{OneAtMost, escape-small}
-use Rattle.prints.proofs.Printed.{lone-things, white-no-quote}
+use Rattle.prints.proofs.Printed.{lone-elements, white-no-quote}
 
 -- ── Strings, printed ──
 
@@ -283,54 +283,54 @@ doc-size t = go (oneOf t LF)
         omega (arith, bytes-append (text "/**\n") (docLines (lines t) ++ text "*/"), bytes-append (docLines (lines t)) (text "*/"), opened, shut, doc-lines-size (lines t), lines-bytes t)
     go false = omega (arith, bytes-append (text "/// ") t, slashes)
 
--- ── Things and segments ──
+-- ── Elements and segments ──
 
--- Every thing with what stands behind it.
-sizes : List Thing → ℕ
+-- Every element with what stands behind it.
+sizes : List Element → ℕ
 sizes [] = 0
-sizes (x ∷ xs) = bytes (shown x) + 1 + sizes xs
+sizes (x ∷ xs) = bytes (emitted x) + 1 + sizes xs
 
-gap-size : (d : Bool) (ts : List Thing) → bytes (gap d ts) ≤ 1
+gap-size : (d : Bool) (ts : List Element) → bytes (gap d ts) ≤ 1
 unfolding gap bytes width
 gap-size true ts = omega arith
 gap-size false [] = zero-le
 gap-size false (t ∷ ts) = omega arith
 
-layout-size : (ts : List Thing) → bytes (layout ts) ≤ sizes ts
+layout-size : (ts : List Element) → bytes (layout ts) ≤ sizes ts
 unfolding layout sizes
 layout-size [] = unfold bytes in zero-le
 layout-size (t ∷ ts) =
-    omega (arith, bytes-append (shown t) (gap (isDoc t) ts ++ layout ts), bytes-append (gap (isDoc t) ts) (layout ts), gap-size (isDoc t) ts, layout-size ts)
+    omega (arith, bytes-append (emitted t) (gap (isDoc t) ts ++ layout ts), bytes-append (gap (isDoc t) ts) (layout ts), gap-size (isDoc t) ts, layout-size ts)
 
-sizes-append : (xs ys : List Thing) → sizes (xs ++ ys) ≡ sizes xs + sizes ys
+sizes-append : (xs ys : List Element) → sizes (xs ++ ys) ≡ sizes xs + sizes ys
 unfolding sizes
 sizes-append [] ys = omega arith
 sizes-append (x ∷ xs) ys = omega (arith, sizes-append xs ys)
 
--- The things of a segment (without ∷ an) error are printed in at most six times its bytes.
+-- The elements of a segment (without ∷ an) error are printed in at most six times its bytes.
 abbrev Sized : Segment → Type 0
-Sized s = s .faults ≡ [] → sizes (thingsOf s) ≤ 6 * bytes (s .chars)
+Sized s = s .faults ≡ [] → sizes (elementsOf s) ≤ 6 * bytes (s .chars)
 
 pub some-bytes : (c : Char) (t : Text) → 1 ≤ bytes (c ∷ t)
 unfolding bytes
 some-bytes c t = omega (arith, width-low c)
 
-plain-sized : (c : Char) (s : Segment) (again : Text → Segment) → (c is ch "\"") ≡ false → Plain c s again → sizes (thingsOf s) ≤ 6 * bytes (s .chars)
+plain-sized : (c : Char) (s : Segment) (again : Text → Segment) → (c is ch "\"") ≡ false → Plain c s again → sizes (elementsOf s) ≤ 6 * bytes (s .chars)
 unfolding sizes
 plain-sized c s again q p =
-    let one : thingsOf s ≡ lone (p .token) ∷ [] = lone-things s c (p .more) (p .took) q ∙ ap (map lone) (p .only) in
+    let one : elementsOf s ≡ lone (p .token) ∷ [] = lone-elements s c (p .more) (p .took) q ∙ ap (map lone) (p .only) in
     rw one (omega (arith, ap bytes (p .spelled), ap bytes (p .took), some-bytes c (p .more)))
 
-white-sized : (c : Char) → isWhite c ≡ true → sizes (thingsOf (whiteSpace c)) ≤ 6 * bytes (whiteSpace c .chars)
-unfolding thingsOf whiteSpace startsWith sizes
+white-sized : (c : Char) → isWhite c ≡ true → sizes (elementsOf (whiteSpace c)) ≤ 6 * bytes (whiteSpace c .chars)
+unfolding elementsOf whiteSpace startsWith sizes
 white-sized c e = rw (white-no-quote c e) zero-le
 
 doc-sized : (t : Text) (n : ℕ) → 3 * bytes t + 10 ≤ n → sizes (lone (record { kind = DocComment; text = t }) ∷ []) ≤ n
-unfolding sizes shown
+unfolding sizes emitted
 doc-sized t n h = omega (arith, doc-size t)
 
-line-doc-sized : (cs : Text) → sizes (thingsOf (lineDoc cs)) ≤ 6 * bytes (lineDoc cs .chars)
-unfolding thingsOf lineDoc startsWith
+line-doc-sized : (cs : Text) → sizes (elementsOf (lineDoc cs)) ≤ 6 * bytes (lineDoc cs .chars)
+unfolding elementsOf lineDoc startsWith
 line-doc-sized cs =
     let t = run notLF cs .taken in
     doc-sized (trim t) (6 * bytes (text "///" ++ t)) (omega (arith, trim-bytes t, bytes-append (text "///") t, three))
@@ -338,8 +338,8 @@ line-doc-sized cs =
     three : bytes (text "///") ≡ 3
     three = unfold bytes width in refl
 
-block-doc-sized : (u : Upto) → sizes (thingsOf (blockDoc u)) ≤ 6 * bytes (blockDoc u .chars)
-unfolding thingsOf blockDoc startsWith
+block-doc-sized : (u : Upto) → sizes (elementsOf (blockDoc u)) ≤ 6 * bytes (blockDoc u .chars)
+unfolding elementsOf blockDoc startsWith
 block-doc-sized u =
     let t = u .before in
     let r = t ++ closing (text "*/") u in
@@ -349,7 +349,7 @@ block-doc-sized u =
     three = unfold bytes width in refl
 
 slash-sized : (cs : Text) → Sized (parseSlashOrComment cs)
-unfolding parseSlashOrComment lineComment blockComment thingsOf startsWith sizes
+unfolding parseSlashOrComment lineComment blockComment elementsOf startsWith sizes
 slash-sized cs =
     if-all Sized (startsWith (text "//") cs) (λ _ _. line-doc-sized (drop 2 cs))
     (λ _. if-all Sized (startsWith (text "/") cs) (λ _ _. zero-le)
@@ -357,8 +357,8 @@ slash-sized cs =
     (λ _. if-all Sized (startsWith (text "*") cs) (λ _ _. zero-le)
     (λ n₂ e. plain-sized (ch "/") (parseMark (ch "/") cs) parseSlashOrComment refl (slash-plain cs (no-comment cs n₁ n₂) e)))))
 
-braces-sized : (u : Upto) → sizes (thingsOf (dollarBraces u)) ≤ 6 * bytes (dollarBraces u .chars)
-unfolding dollarBraces thingsOf startsWith sizes shown
+braces-sized : (u : Upto) → sizes (elementsOf (dollarBraces u)) ≤ 6 * bytes (dollarBraces u .chars)
+unfolding dollarBraces elementsOf startsWith sizes emitted
 braces-sized u =
     let r = u .before ++ closing (text "}") u in
     omega (arith, bytes-append (text "${") r, two, three)
@@ -394,15 +394,15 @@ quote-costs cs =
     if-all (λ (s : Segment). costs (map word (s .pieces)) + 3 ≤ 6 * bytes (s .chars)) (startsWith (text "\"\"") cs)
     (λ _. raw-costs (upTo (text "\"\"\"") (drop 2 cs))) (λ _. string-costs cs)
 
-quote-things : (cs : Text) → thingsOf (parseQuote cs) ≡ string (map word (parseQuote cs .pieces)) ∷ []
-unfolding thingsOf startsWith
-quote-things cs = rw (quote-takes cs .took)
+quote-elements : (cs : Text) → elementsOf (parseQuote cs) ≡ string (map word (parseQuote cs .pieces)) ∷ []
+unfolding elementsOf startsWith
+quote-elements cs = rw (quote-takes cs .took)
 
 quote-sized : (cs : Text) → Sized (parseQuote cs)
-unfolding sizes shown
+unfolding sizes emitted
 quote-sized cs e =
     let ws = map word (parseQuote cs .pieces) in
-    rw (quote-things cs)
+    rw (quote-elements cs)
     (omega (arith, quote-costs cs, pieces-size false ws, bytes-append (text "\"") (pieces false ws ++ text "\""), bytes-append (pieces false ws) (text "\""), one))
   where
     one : bytes (text "\"") ≡ 1
@@ -421,8 +421,8 @@ char-size (c ∷ []) h =
     none-bytes = unfold bytes in refl
 char-size (c ∷ d ∷ t) h = absurd h
 
-char-token-sized : (c : Char) (more t : Text) (fs : List Fault) (o : Bool) → OneAtMost t → sizes (thingsOf (charToken (ch "'" ∷ c ∷ more) t fs o)) ≤ 6 * bytes (ch "'" ∷ c ∷ more)
-unfolding thingsOf startsWith sizes shown
+char-token-sized : (c : Char) (more t : Text) (fs : List Fault) (o : Bool) → OneAtMost t → sizes (elementsOf (charToken (ch "'" ∷ c ∷ more) t fs o)) ≤ 6 * bytes (ch "'" ∷ c ∷ more)
+unfolding elementsOf startsWith sizes emitted
 char-token-sized c more t fs o h = omega (arith, char-size t h, two c more)
   where
     two : (c : Char) (t : Text) → 2 ≤ bytes (ch "'" ∷ c ∷ t)
@@ -454,8 +454,8 @@ segment-sized c cs =
     (λ _. if-all Sized (isIdentStart c) (λ i _. plain-sized c (parseIdentifierOrKeyword (c ∷ cs)) (λ t. parseIdentifierOrKeyword (c ∷ t)) n₄ (name-plain c cs i))
     (λ _ e. plain-sized c (parseMark c cs) (parseMark c) n₄ (mark-plain c cs e))))))))
 
-segments-sized : (k : ℕ) (cs : Text) → NoFaults (segments k cs) → sizes (thingsIn (segments k cs)) ≤ 6 * bytes (charsOfAll (segments k cs))
-unfolding segments thingsIn charsOfAll sizes
+segments-sized : (k : ℕ) (cs : Text) → NoFaults (segments k cs) → sizes (elementsIn (segments k cs)) ≤ 6 * bytes (charsOfAll (segments k cs))
+unfolding segments elementsIn charsOfAll sizes
 segments-sized k [] h = zero-le
 segments-sized (suc k) (c ∷ cs) h = segments-sized k cs h
 segments-sized zero (c ∷ cs) h =
@@ -463,18 +463,18 @@ segments-sized zero (c ∷ cs) h =
     let k = sizeBehindFirst (s .chars) in
     omega (
       arith,
-      sizes-append (thingsOf s) (thingsIn (segments k cs)),
+      sizes-append (elementsOf s) (elementsIn (segments k cs)),
       bytes-append (s .chars) (charsOfAll (segments k cs)),
       segment-sized c cs (h .0),
       segments-sized k cs (h .1),
     )
 
 pub print-size : (A : Text) → errors A ≡ [] → bytes (printText A) ≤ 6 * bytes A
-unfolding printText things errors
+unfolding printText elements errors
 print-size A e =
     omega (
       arith,
-      layout-size (thingsIn (segments 0 A)),
+      layout-size (elementsIn (segments 0 A)),
       segments-sized 0 A (errors-faults 0 origin A e),
       ap bytes (segments-are-text A),
     )

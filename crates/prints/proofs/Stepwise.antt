@@ -19,8 +19,8 @@ use Rattle.rules.proofs.Ahead.{is-not, is-eq}
 use Rattle.rules.specs.Bounds.{Every}
 use Rattle.rules.proofs.Starts.{AllAt}
 use Rattle.rules.proofs.Fits.{body-and-eof}
-use Rattle.prints.specs.Things.{Word, Thing, lone, string, tokenWord, scriptThings}
-use Rattle.prints.specs.Print.{escaped, escapes, unicode, isWord, literal, parting, isName, pieces, shown, isDoc, printBytes, docLines, doc, character}
+use Rattle.prints.specs.Elements.{Word, Element, lone, string, tokenWord, scriptElements}
+use Rattle.prints.specs.Print.{escaped, escapes, unicode, isWord, literal, parting, isName, pieces, emitted, isDoc, printBytes, docLines, doc, character}
 use Rattle.prints.specs.Records.{quoteAt}
 use Rattle.prints.specs.Writing.{dueSpace, docFeed, written, onePiece, nameBehind, State, outside, inString, closingQuote, isDue, isNamed, continuesAt, begun, tokenText, stateBehind, writeTokens, starred, feeds}
 use Rattle.prints.proofs.Facts.{is-same}
@@ -61,26 +61,26 @@ kind-not : (k m n : ℕ) → (m is n) ≡ false → (k is m) ≡ true → (k is 
 kind-not k m n f e = ap (λ (x : ℕ). x is n) (is-eq k m e) ∙ f
 
 pub begun-char : (w : Word) → (w .kind is CharLiteral) ≡ true → begun false w ≡ character (w .text)
-unfolding begun shown isDoc docFeed
+unfolding begun emitted isDoc docFeed
 begun-char w e = rw (e, kind-not (w .kind) CharLiteral DocComment refl e) (append-nil (character (w .text)))
 
 pub begun-assign : (w : Word) → (w .kind is DoubleColonT) ≡ true → begun false w ≡ text ":="
-unfolding begun shown isDoc docFeed
+unfolding begun emitted isDoc docFeed
 begun-assign w e = rw (e, kind-not (w .kind) DoubleColonT CharLiteral refl e, kind-not (w .kind) DoubleColonT DocComment refl e)
 
 pub begun-braces : (w : Word) → (w .kind is StringInterpStart) ≡ true → begun false w ≡ text "${}"
-unfolding begun shown isDoc docFeed
+unfolding begun emitted isDoc docFeed
 begun-braces w e =
     rw (e, kind-not (w .kind) StringInterpStart CharLiteral refl e, kind-not (w .kind) StringInterpStart DoubleColonT refl e, kind-not (w .kind) StringInterpStart DocComment refl e)
 
 pub begun-doc : (w : Word) → (w .kind is DocComment) ≡ true → begun false w ≡ doc (w .text) ++ (LF ∷ [])
-unfolding begun shown isDoc docFeed
+unfolding begun emitted isDoc docFeed
 begun-doc w e =
     rw (e, kind-not (w .kind) DocComment CharLiteral refl e, kind-not (w .kind) DocComment DoubleColonT refl e, kind-not (w .kind) DocComment StringInterpStart refl e)
 
 pub begun-plain : (w : Word) → (w .kind is CharLiteral) ≡ false → (w .kind is DoubleColonT) ≡ false → (w .kind is StringInterpStart) ≡ false
     → (w .kind is DocComment) ≡ false → begun false w ≡ w .text
-unfolding begun shown isDoc docFeed
+unfolding begun emitted isDoc docFeed
 begun-plain w a b c d = rw (a, b, c, d) (append-nil (w .text))
 
 -- ── Doc comments ──
@@ -192,18 +192,18 @@ pub write-eof : (q : ℕ → Bool) (state : State) (t : Token) (ts : List Token)
 unfolding writeTokens
 write-eof q state t ts e = rw e
 
--- ── Things ──
+-- ── Elements ──
 
-shown-string : (w : Word) (ws : List Word) (R : Text)
-    → (text "\"" ++ onePiece false w) ++ (pieces (nameBehind w) ws ++ (text "\"" ++ R)) ≡ shown (string (w ∷ ws)) ++ R
-unfolding shown
-shown-string w ws R =
+emitted-string : (w : Word) (ws : List Word) (R : Text)
+    → (text "\"" ++ onePiece false w) ++ (pieces (nameBehind w) ws ++ (text "\"" ++ R)) ≡ emitted (string (w ∷ ws)) ++ R
+unfolding emitted
+emitted-string w ws R =
     let P = pieces (nameBehind w) ws in
     ap (λ r. ch "\"" ∷ r)
     (sym (append-assoc (onePiece false w) P (text "\"" ++ R))
     ∙ (ap (λ r. r ++ (text "\"" ++ R)) (sym (pieces-one false w ws)) ∙ sym (append-assoc (pieces false (w ∷ ws)) (text "\"") R)))
 
-grouped-written : {q : ℕ → Bool} (n : ℕ) {ts : List Token} {xs : List Thing} → Grouped q n ts xs → (state : State) → Before state n
+grouped-written : {q : ℕ → Bool} (n : ℕ) {ts : List Token} {xs : List Element} → Grouped q n ts xs → (state : State) → Before state n
     → (e : Token) → (e .kind is EOF) ≡ true → writeTokens q state (ts ++ (e ∷ [])) ≡ closingQuote state ++ written (isDue state) xs
 grouped-written {q} n no-more state h e k = unfold writeTokens written in (rw k (sym (append-nil (closingQuote state))))
 grouped-written {q} n (alone t {ts} {xs} l b c g) state h e k =
@@ -214,12 +214,12 @@ grouped-written {q} n (alone t {ts} {xs} l b c g) state h e k =
     ∙ (ap (λ x. closingQuote state ++ (dueSpace (isDue state) ++ (begun x w ++ writeTokens q (stateFrom x t) (ts ++ (e ∷ []))))) b
     ∙ (ap (λ r. closingQuote state ++ (dueSpace (isDue state) ++ (begun false w ++ r))) ih ∙ ap (λ r. closingQuote state ++ r) (lone-written (isDue state) w xs)))
   where
-    outside-written : (d : Bool) (xs : List Thing) → closingQuote (outside d) ++ written (isDue (outside d)) xs ≡ written d xs
+    outside-written : (d : Bool) (xs : List Element) → closingQuote (outside d) ++ written (isDue (outside d)) xs ≡ written d xs
     outside-written d xs = unfold closingQuote isDue in refl
 
-    lone-written : (d : Bool) (w : Word) (xs : List Thing)
+    lone-written : (d : Bool) (w : Word) (xs : List Element)
         → dueSpace d ++ (begun false w ++ written (not (isDoc (lone w))) xs) ≡ written d (lone w ∷ xs)
-    lone-written d w xs = unfold begun written in (ap (λ r. dueSpace d ++ r) (append-assoc (shown (lone w)) (docFeed (isDoc (lone w))) (written (not (isDoc (lone w))) xs)))
+    lone-written d w xs = unfold begun written in (ap (λ r. dueSpace d ++ r) (append-assoc (emitted (lone w)) (docFeed (isDoc (lone w))) (written (not (isDoc (lone w))) xs)))
 grouped-written {q} n (strung m t g {ts} {xs} l b a c r) state h e k =
     let w = tokenWord t in
     let ws = map tokenWord g in
@@ -237,12 +237,12 @@ grouped-written {q} n (strung m t g {ts} {xs} l b a c r) state h e k =
     ∙ (ap (λ y. closingQuote state ++ (dueSpace (isDue state) ++ (begun true w ++ y))) all
     ∙ ap (λ y. closingQuote state ++ y) (string-written (isDue state) w ws xs))))
   where
-    inside-written : (m : ℕ) (nm : Bool) (xs : List Thing) → closingQuote (inString m nm) ++ written (isDue (inString m nm)) xs ≡ text "\"" ++ written true xs
+    inside-written : (m : ℕ) (nm : Bool) (xs : List Element) → closingQuote (inString m nm) ++ written (isDue (inString m nm)) xs ≡ text "\"" ++ written true xs
     inside-written m nm xs = unfold closingQuote isDue in refl
 
-    string-written : (d : Bool) (w : Word) (ws : List Word) (xs : List Thing)
+    string-written : (d : Bool) (w : Word) (ws : List Word) (xs : List Element)
         → dueSpace d ++ (begun true w ++ (pieces (nameBehind w) ws ++ (text "\"" ++ written true xs))) ≡ written d (string (w ∷ ws) ∷ xs)
-    string-written d w ws xs = unfold begun written isDoc docFeed in (ap (λ y. dueSpace d ++ y) (shown-string w ws (written true xs)))
+    string-written d w ws xs = unfold begun written isDoc docFeed in (ap (λ y. dueSpace d ++ y) (emitted-string w ws (written true xs)))
 
 -- ── Scripts ──
 
@@ -251,6 +251,6 @@ pub print-tokens : (s : List ℕ) → accepted s ≡ true → printBytes s ≡ w
 print-tokens s ok =
     let e = asBytes (eof (lexed (scriptText s) .stop)) in
     print-by-bytes s
-    ∙ (layout-written (scriptThings s)
+    ∙ (layout-written (scriptElements s)
     ∙ sym (ap (writeTokens (quoteAt (afterMark s)) (outside false)) (body-and-eof s)
     ∙ (grouped-written 0 (script-grouped s ok) (outside false) tt e refl ∙ (unfold closingQuote isDue in refl))))

@@ -30,8 +30,8 @@ use Rattle.rules.proofs.Front.{number-takes, run-splits, Takes, name-takes, sta
 use Rattle.rules.specs.Bounds.{Every}
 use Rattle.rules.proofs.Every.{every-append, every-map}
 use Rattle.rules.proofs.Sources.{allRows, found-right}
-use Rattle.prints.specs.Things.{Word, Thing, lone, string, word, thingsOf, thingsIn, things}
-use Rattle.prints.specs.Print.{hexDigit, unicode, escaped, escapes, isWord, literal, isName, pieces, character, docLines, doc, shown, isDoc, gap, layout, printText, parting}
+use Rattle.prints.specs.Elements.{Word, Element, lone, string, word, elementsOf, elementsIn, elements}
+use Rattle.prints.specs.Print.{hexDigit, unicode, escaped, escapes, isWord, literal, isName, pieces, character, docLines, doc, emitted, isDoc, gap, layout, printText, parting}
 use Rattle.prints.proofs.Facts.{or-case, within-le}
 use Rattle.prints.proofs.Again.{allOf}
 use Rattle.prints.proofs.Plain.{number-whole, name-whole, Whole}
@@ -302,33 +302,33 @@ segment-valid c cs h =
     (λ _. if-all Valid (isDigit c) (λ d. whole-valid c cs _ (number-takes c cs d) (number-whole (c ∷ cs)) h)
     (λ _. if-all Valid (isIdentStart c) (λ i. whole-valid c cs _ (name-takes c cs (start-part c i)) (name-whole (c ∷ cs)) h) (λ _. mark-valid c cs h)))))))
 
--- ── Things ──
+-- ── Elements ──
 
-abbrev ValidThing : Thing → Type 0
-ValidThing (lone w) = Scalars (w .text)
-ValidThing (string ws) = ValidWords ws
+abbrev ValidElement : Element → Type 0
+ValidElement (lone w) = Scalars (w .text)
+ValidElement (string ws) = ValidWords ws
 
-abbrev pub ValidThings : List Thing → Type 0
-ValidThings = Every ValidThing
+abbrev pub ValidElements : List Element → Type 0
+ValidElements = Every ValidElement
 
-thing-valid : (s : Segment) → Valid s → ValidThings (thingsOf s)
-unfolding thingsOf
-thing-valid s h =
-    if-all ValidThings (startsWith (text "\"") (s .chars)) (λ _. (every-map word _ _ (λ _ g. g) (s .pieces) h, tt))
+element-valid : (s : Segment) → Valid s → ValidElements (elementsOf s)
+unfolding elementsOf
+element-valid s h =
+    if-all ValidElements (startsWith (text "\"") (s .chars)) (λ _. (every-map word _ _ (λ _ g. g) (s .pieces) h, tt))
     (λ _. every-map (λ x. lone (word x)) _ _ (λ _ g. g) (s .pieces) h)
 
-segments-valid : (k : ℕ) (cs : Text) → Scalars cs → ValidThings (thingsIn (segments k cs))
-unfolding segments thingsIn
+segments-valid : (k : ℕ) (cs : Text) → Scalars cs → ValidElements (elementsIn (segments k cs))
+unfolding segments elementsIn
 segments-valid k [] h = tt
 segments-valid (suc k) (c ∷ cs) h = segments-valid k cs (h .1)
 segments-valid zero (c ∷ cs) h =
     let s = segment (c ∷ cs) in
     let k = sizeBehindFirst (s .chars) in
-    every-append _ (thingsOf s) (thingsIn (segments k cs)) (thing-valid s (segment-valid c cs h)) (segments-valid k cs (h .1))
+    every-append _ (elementsOf s) (elementsIn (segments k cs)) (element-valid s (segment-valid c cs h)) (segments-valid k cs (h .1))
 
-pub things-valid : (A : Text) → Scalars A → ValidThings (things A)
-unfolding things
-things-valid A h = segments-valid 0 A h
+pub elements-valid : (A : Text) → Scalars A → ValidElements (elements A)
+unfolding elements
+elements-valid A h = segments-valid 0 A h
 
 -- ── The print ──
 
@@ -393,10 +393,10 @@ doc-lines-valid (l ∷ ls) h =
 quoted-valid : (q t : Text) → Scalars q → Scalars t → Scalars (q ++ (t ++ q))
 quoted-valid q t h g = scalars-append q (t ++ q) h (scalars-append t q g h)
 
-shown-valid : (x : Thing) → ValidThing x → Scalars (shown x)
-unfolding shown character doc
-shown-valid (string ws) h = quoted-valid (text "\"") (pieces false ws) (plain (text "\"") refl) (pieces-valid false ws h)
-shown-valid (lone w) h =
+emitted-valid : (x : Element) → ValidElement x → Scalars (emitted x)
+unfolding emitted character doc
+emitted-valid (string ws) h = quoted-valid (text "\"") (pieces false ws) (plain (text "\"") refl) (pieces-valid false ws h)
+emitted-valid (lone w) h =
     let t = w .text in
     if-all Scalars (w .kind is CharLiteral)
     (λ _. if-all Scalars (isEmpty t) (λ _. plain (text "'\\uD800'") refl) (λ _. quoted-valid (text "'") (escapes (ch "'") t) (plain (text "'") refl) (escapes-valid (ch "'") t h)))
@@ -409,18 +409,18 @@ shown-valid (lone w) h =
     (λ _. scalars-append (text "/// ") t (plain (text "/// ") refl) h))
     (λ _. h))))
 
-gap-valid : (d : Bool) (ts : List Thing) → Scalars (gap d ts)
+gap-valid : (d : Bool) (ts : List Element) → Scalars (gap d ts)
 unfolding gap
 gap-valid true ts = plain (LF ∷ []) refl
 gap-valid false [] = tt
 gap-valid false (t ∷ ts) = plain (text " ") refl
 
-layout-valid : (ts : List Thing) → ValidThings ts → Scalars (layout ts)
+layout-valid : (ts : List Element) → ValidElements ts → Scalars (layout ts)
 unfolding layout
 layout-valid [] h = tt
 layout-valid (t ∷ ts) h =
-    scalars-append (shown t) (gap (isDoc t) ts ++ layout ts) (shown-valid t (h .0)) (scalars-append (gap (isDoc t) ts) (layout ts) (gap-valid (isDoc t) ts) (layout-valid ts (h .1)))
+    scalars-append (emitted t) (gap (isDoc t) ts ++ layout ts) (emitted-valid t (h .0)) (scalars-append (gap (isDoc t) ts) (layout ts) (gap-valid (isDoc t) ts) (layout-valid ts (h .1)))
 
 pub print-valid : (A : Text) → Scalars A → Scalars (printText A)
 unfolding printText
-print-valid A h = layout-valid (things A) (things-valid A h)
+print-valid A h = layout-valid (elements A) (elements-valid A h)

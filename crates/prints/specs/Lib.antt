@@ -1,4 +1,4 @@
-pub mod Things
+pub mod Elements
 pub mod Print
 pub mod Records
 pub mod Reprint

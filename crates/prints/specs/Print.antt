@@ -1,4 +1,4 @@
--- The office print of a script (order 2): its things written again in one layout.
+-- The office print of a script (order 2): its elements written again in one layout.
 use mathlib.Core.Bool.{Bool, true, false, _&&_, _||_, not}
 use mathlib.Core.List.{List, [], _∷_, _++_}
 use Prim.Native.Nat.{ℕ, _+_, _-_, _/_, _%_}
@@ -10,7 +10,7 @@ use Rattle.rules.specs.Scan.{startsWith}
 use Rattle.rules.specs.Tables.{CharLiteral, DoubleColonT, StringInterpStart, DocComment}
 use Rattle.rules.specs.Docs.{lines}
 use Rattle.rules.specs.Script.{scriptText}
-use Rattle.prints.specs.Things.{Word, Thing, lone, string, things}
+use Rattle.prints.specs.Elements.{Word, Element, lone, string, elements}
 
 -- ── Escapes ──
 
@@ -73,11 +73,11 @@ docLines (l ∷ ls) = text "* " ++ (l ++ (LF ∷ docLines ls))
 unfoldable pub doc : Text → Text
 doc t = if oneOf t LF then text "/**\n" ++ (docLines (lines t) ++ text "*/") else text "/// " ++ t
 
--- ── The things, printed ──
+-- ── The elements, printed ──
 
-unfoldable pub shown : Thing → Text
-shown (string ws) = text "\"" ++ (pieces false ws ++ text "\"")
-shown (lone w) =
+unfoldable pub emitted : Element → Text
+emitted (string ws) = text "\"" ++ (pieces false ws ++ text "\"")
+emitted (lone w) =
     if w .kind is CharLiteral then character (w .text)
     else if w .kind is DoubleColonT then text ":="
     else if w .kind is StringInterpStart then text "${}"
@@ -86,23 +86,23 @@ shown (lone w) =
 
 -- ── The layout ──
 
-unfoldable pub isDoc : Thing → Bool
+unfoldable pub isDoc : Element → Bool
 isDoc (string ws) = false
 isDoc (lone w) = w .kind is DocComment
 
--- What stands behind a thing: a line feed behind a doc comment; a space behind another thing, and nothing behind the last.
-unfoldable pub gap : Bool → List Thing → Text
+-- What stands behind an element: a line feed behind a doc comment; a space behind another element, and nothing behind the last.
+unfoldable pub gap : Bool → List Element → Text
 gap true ts = LF ∷ []
 gap false [] = []
 gap false (t ∷ ts) = ch " " ∷ []
 
-unfoldable pub layout : List Thing → Text
+unfoldable pub layout : List Element → Text
 layout [] = []
-layout (t ∷ ts) = shown t ++ (gap (isDoc t) ts ++ layout ts)
+layout (t ∷ ts) = emitted t ++ (gap (isDoc t) ts ++ layout ts)
 
 -- The print of a text.
 unfoldable pub printText : Text → Text
-printText cs = layout (things cs)
+printText cs = layout (elements cs)
 
 -- The print of a script given by its bytes.
 unfoldable pub printBytes : List ℕ → List ℕ

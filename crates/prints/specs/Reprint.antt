@@ -5,7 +5,7 @@ use mathlib.Core.List.{List, [], map}
 use Prim.Native.Nat.{ℕ}
 use Rattle.byte_order_mark.specs.Mark.{hasMark}
 use Rattle.rules.specs.Script.{accepted, scriptTokens, scriptErrors, scriptClosed}
-use Rattle.prints.specs.Things.{tokenWord, scriptThings}
+use Rattle.prints.specs.Elements.{tokenWord, scriptElements}
 use Rattle.prints.specs.Print.{printBytes}
 use Rattle.prints.specs.Records.{scriptContinues, scriptInside}
 
@@ -18,5 +18,5 @@ pub record Reprints (s p : List ℕ) : Type 0 where
   pub same-words : map tokenWord (scriptTokens p) ≡ map tokenWord (scriptTokens s)  -- the same kinds and texts, as bytes
   pub same-groups : scriptContinues p ≡ scriptContinues s  -- the same grouping of pieces into strings
   pub same-inside : scriptInside p ≡ scriptInside s  -- the same answer to whether a token, as a 121, stands in a string
-  pub same-things : scriptThings p ≡ scriptThings s  -- all of this in one
+  pub same-elements : scriptElements p ≡ scriptElements s  -- all of this in one
   pub prints-again : printBytes p ≡ p

@@ -7,10 +7,10 @@ use Rattle.characters.specs.Choice.{if_then_else_, _is_}
 use Rattle.rules.specs.Text.{Text, ch, text, LF}
 use Rattle.rules.specs.Tokens.{Token}
 use Rattle.rules.specs.Tables.{StringInterpStart, EOF}
-use Rattle.prints.specs.Things.{Word, Thing, lone, tokenWord}
-use Rattle.prints.specs.Print.{literal, parting, isName, shown, isDoc}
+use Rattle.prints.specs.Elements.{Word, Element, lone, tokenWord}
+use Rattle.prints.specs.Print.{literal, parting, isName, emitted, isDoc}
 
--- ── Thing by thing ──
+-- ── Element by element ──
 
 -- A space that is due, and the line feed behind a doc comment.
 unfoldable pub dueSpace : Bool → Text
@@ -19,13 +19,13 @@ dueSpace due = if due then ch " " ∷ [] else []
 unfoldable pub docFeed : Bool → Text
 docFeed doc = if doc then LF ∷ [] else []
 
--- The things, where `due` says that a space is due before the next one.
-unfoldable pub written : Bool → List Thing → Text
+-- The elements, where `due` says that a space is due before the next one.
+unfoldable pub written : Bool → List Element → Text
 written due [] = []
-written due (t ∷ ts) = dueSpace due ++ (shown t ++ (docFeed (isDoc t) ++ written (not (isDoc t)) ts))
+written due (t ∷ ts) = dueSpace due ++ (emitted t ++ (docFeed (isDoc t) ++ written (not (isDoc t)) ts))
 
--- Whether a space is due behind things, if it was due before them.
-unfoldable pub dueBehind : Bool → List Thing → Bool
+-- Whether a space is due behind elements, if it was due before them.
+unfoldable pub dueBehind : Bool → List Element → Bool
 dueBehind due [] = due
 dueBehind due (t ∷ ts) = dueBehind (not (isDoc t)) ts
 
@@ -41,7 +41,7 @@ nameBehind w = w .kind is StringInterpStart && isName (w .text)
 
 -- What a writer owes: a space, or nothing; or inside a string its closing quote.
 pub data State : Type 0 where
-  outside : Bool → State  -- a space is due before the next thing
+  outside : Bool → State  -- a space is due before the next element
   inString : ℕ → Bool → State  -- the string's start; a `$name` stands right before
 
 unfoldable pub closingQuote : State → Text
@@ -63,7 +63,7 @@ continuesAt (inString start named) n = start is n
 
 -- A token that begins a string, where `quoted` says so, or stands alone.
 unfoldable pub begun : Bool → Word → Text
-begun quoted w = if quoted then text "\"" ++ onePiece false w else shown (lone w) ++ docFeed (isDoc (lone w))
+begun quoted w = if quoted then text "\"" ++ onePiece false w else emitted (lone w) ++ docFeed (isDoc (lone w))
 
 -- What is written for a token; `quoted` says that a quote stands where it starts.
 unfoldable pub tokenText : Bool → State → Token → Text

@@ -132,14 +132,14 @@ abbrev pub AllAt : ℕ → List Token → Type 0
 AllAt n = Every (λ (t : Token). t .span .start ≡ n)
 
 -- One token at most, or pieces of a string.
-abbrev pub OneThing : List Token → Type 0
-OneThing g = (length g ≤ 1) ⊎ Every (λ (t : Token). isPiece (t .kind) ≡ true) g
+abbrev pub OneElement : List Token → Type 0
+OneElement g = (length g ≤ 1) ⊎ Every (λ (t : Token). isPiece (t .kind) ≡ true) g
 
 -- The tokens of a group start at one place, at `n` or behind it, and are one token or the pieces of one string; those of the next
 -- group start later; and so on, none of them behind `end`.
 abbrev pub Rising : ℕ → List (List Token) → ℕ → Type 0
 Rising n [] end = n ≤ end
-Rising n (g ∷ gs) end = (at : ℕ) × (n ≤ at) × AllAt at g × OneThing g × Rising (suc at) gs end
+Rising n (g ∷ gs) end = (at : ℕ) × (n ≤ at) × AllAt at g × OneElement g × Rising (suc at) gs end
 
 span-start : (p : Position) (t : Text) → span p (advances p t) .start ≡ p .offset
 span-start p t = ap (λ x. x .start) (span-plain p t)
@@ -158,8 +158,8 @@ unfolding tokensOf
 tokens-pieces p s [] h = tt
 tokens-pieces p s (x ∷ xs) (e, h) = (e, tokens-pieces p s xs h)
 
-one-thing : (p : Position) (s : Segment) → Single s → OneThing (tokensOf p s (s .pieces))
-one-thing p s h = ⊎-map (λ l. rw (tokens-length p s (s .pieces)) l) (λ a. tokens-pieces p s (s .pieces) a) h
+one-element : (p : Position) (s : Segment) → Single s → OneElement (tokensOf p s (s .pieces))
+one-element p s h = ⊎-map (λ l. rw (tokens-length p s (s .pieces)) l) (λ a. tokens-pieces p s (s .pieces) a) h
 
 -- Starts never fall, and equal starts occur only in one segment; EOF starts behind them all.
 pub groups-rise : (k : ℕ) (p : Position) (cs : Text) → k ≤ length cs → Rising (p .offset) (groups p (segments k cs)) (lex k p cs .stop .offset)
@@ -171,7 +171,7 @@ groups-rise zero p (c ∷ cs) h =
       p .offset,
       omega arith,
       tokens-at p s (s .pieces),
-      one-thing p s (segment-single c cs),
+      one-element p s (segment-single c cs),
       rising-weaken (after p s .offset) (suc (p .offset)) (groups (after p s) (segments (sizeBehindFirst (s .chars)) cs)) _
           (omega (arith, after-offset p s, chars-low c cs))
           (groups-rise (sizeBehindFirst (s .chars)) (after p s) cs (size-fits c cs)),

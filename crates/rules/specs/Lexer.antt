@@ -1,5 +1,5 @@
--- The lexer. `segment` looks at the front of what is left of a text and answers one lexical thing: a character of white space, a
--- comment, a token, or a whole string with all its pieces. `segments` cuts a text into such things, one after another, and `place`
+-- The lexer. `segment` looks at the front of what is left of a text and answers one lexical element: a character of white space, a
+-- comment, a token, or a whole string with all its pieces. `segments` cuts a text into such elements, one after another, and `place`
 -- gives each its positions.
 use mathlib.Core.Bool.{Bool, true, false, _||_, not}
 use mathlib.Core.List.{List, [], _∷_, _++_}
@@ -37,7 +37,7 @@ unfoldable pub parseDollar : Text → Segment
 parseDollar cs =
     if startsWith (text "{") cs then dollarBraces (upTo (text "}") (drop 1 cs)) else wordToken Ident (ch "$" ∷ [])
 
--- ── One lexical thing: `skip_whitespace_and_comments` and `next_token` (lines 184 to 261) ──
+-- ── One lexical element: `skip_whitespace_and_comments` and `next_token` (lines 184 to 261) ──
 
 unfoldable pub segment : Text → Segment
 segment [] = skipped space [] [] false

@@ -58,7 +58,7 @@ units-join s p q r bs cs es fs a b =
     }
 
 -- Whole units are such a row.
-units-whole : (s : List ℕ) (p q : Position) (t : Text) (bs es : List ℕ) → Whole (charsAt s (p .offset)) t (charsAt s (q .offset)) → Reach s p t q
+pub units-whole : (s : List ℕ) (p q : Position) (t : Text) (bs es : List ℕ) → Whole (charsAt s (p .offset)) t (charsAt s (q .offset)) → Reach s p t q
     → encode (unitsMade (length t) (charsAt s (p .offset))) ≡ bs → errorBytes (unitsErrors (length t) p (charsAt s (p .offset))) ≡ es
     → p .offset + length bs ≤ q .offset → 29 * p .offset + length es ≤ 29 * q .offset → Units s p q bs es
 units-whole s p q t bs es w r a b f g =

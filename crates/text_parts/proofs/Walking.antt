@@ -21,7 +21,7 @@ use Rattle.doc_lines.specs.declared.Line.{Line}
 use Rattle.docs.specs.Texts.{lineText, feedsAfter, linesText}
 use Rattle.docs.proofs.Joining.{cleanLines, clean-text}
 use Rattle.docs.proofs.Cleaning.{empty-slice, feeds-one, feeds-none, feeds-more, line-bytes}
-use Rattle.text_parts.specs.Lines.{lineLeft, linesBehind, textLeft, leftSize, GoodLine, GoodCursor, atLine, Passed, Begun, BehindLine, GoesOn}
+use Rattle.text_parts.specs.Lines.{lineLeft, linesBehind, textLeft, leftSize, GoodLine, GoodCursor, atLine, behindFeed, Passed, Begun, BehindLine, GoesOn}
 use Rattle.text_parts.specs.declared.Part.the-variants as part
 use Rattle.text_parts.specs.declared.lines.Cursor.{Cursor}
 use Rattle.text_parts.proofs.Feedless.{line-feedless, nothing-feedless}
@@ -206,11 +206,11 @@ module _ (s : List ℕ) (c : Cursor) (g : GoodCursor s c) where
   shorter x d e h = omega (arith, ap length e ∙ length-append x (textLeft s d))
 
   abbrev fewer : Cursor
-  fewer = record { from = c .from; to = c .to; feeds = c .feeds - 1; next = c .next; last = c .last }
+  fewer = behindFeed c
 
   -- A line feed that waits.
-  pub next-feed : (c .from ≡ c .to → ⊥) → 0 < c .feeds → GoesOn s c (record { part = part.Char LF; cursor = fewer; over = false })
-  next-feed n h =
+  fed : (c .from ≡ c .to → ⊥) → 0 < c .feeds → GoesOn s c (record { part = part.Char LF; cursor = fewer; over = false })
+  fed n h =
       let i = g .line in
       let k = full n in
       let m : c .feeds ≡ suc (c .feeds - 1) = omega arith in
@@ -246,6 +246,9 @@ module _ (s : List ℕ) (c : Cursor) (g : GoodCursor s c) where
       same-behind : c .from < c .to → (b : Bool) → c .last ≡ b → linesBehind s c ≡ linesBehind s fewer
       same-behind k true e = behind-none s c e ∙ sym (behind-none s fewer e)
       same-behind k false e = behind-full s c e k ∙ sym (behind-full s fewer e k)
+
+  pub next-feed : (c .from ≡ c .to → ⊥) → 0 < c .feeds → (d : Cursor) → d ≡ behindFeed c → GoesOn s c (record { part = part.Char LF; cursor = d; over = false })
+  next-feed n h d e = rw e (fed n h)
 
   -- The line.
   pub next-line : (c .from ≡ c .to → ⊥) → c .feeds ≤ 0 → (d : Cursor) → BehindLine s c d

@@ -2,7 +2,7 @@
 use mathlib.Core.Path.{_≡_}
 use mathlib.Core.Bool.{Bool, true, false}
 use mathlib.Core.List.{List, [], _++_, map}
-use Prim.Native.Nat.{ℕ, _≤_, _<_}
+use Prim.Native.Nat.{ℕ, _-_, _≤_, _<_}
 use lib.ListN.{length, replicate}
 use lib.Seq.{slice}
 use Rattle.characters.specs.Choice.{if_then_else_, _is_}
@@ -55,6 +55,10 @@ pub record GoodCursor (s : List ℕ) (c : Cursor) : Type 0 where
 -- The cursor at a line.
 abbrev pub atLine : Line → ℕ → Cursor
 atLine l k = record { from = l .from; to = l .to; feeds = k; next = l .next; last = l .last }
+
+-- The cursor where one line feed less waits.
+abbrev pub behindFeed : Cursor → Cursor
+behindFeed c = record { from = c .from; to = c .to; feeds = c .feeds - 1; next = c .next; last = c .last }
 
 -- If a line is left, a line feed waits before it.
 abbrev pub Waits : Cursor → Type 0

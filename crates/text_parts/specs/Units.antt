@@ -7,7 +7,7 @@ use Rattle.characters.specs.Utf8.{charsAt, encode}
 use Rattle.spans.specs.declared.Position.{Position}
 use Rattle.rules.specs.Text.{ch, isEmpty}
 use Rattle.cursor.specs.Strings.{stands}
-use Rattle.bridge.specs.Bridge.{isPlain, PastRun}
+use Rattle.bridge.specs.Bridge.{Within, isPlain, PastRun}
 use Rattle.string_units.specs.declared.Made.{Made}
 use Rattle.string_units.specs.declared.Made.the-variants as made
 use Rattle.string_units.specs.declared.Mistake.{Mistake}
@@ -30,6 +30,10 @@ isBad mistake.None = false
 isBad mistake.BadUnicode = true
 isBad (mistake.BadEscape e) = true
 
+-- No unit stands at a place.
+abbrev pub overStep : ℕ → Step
+overStep at = record { part = part.Nothing; at = at; plain = false; bad = false; over = true }
+
 -- What the units from a position on still give: the text of the piece that begins there.
 abbrev pub textLeft : List ℕ → Position → List ℕ
 textLeft s p = encode (runMade s p)
@@ -38,18 +42,20 @@ textLeft s p = encode (runMade s p)
 -- the plain characters at `p`.
 pub record GoesOn (s : List ℕ) (p : Position) (r : Step) : Type 0 where
   pub notes : List ℕ
-  pub units : Units s p (r .at) (partBytes s (r .part)) notes
+  pub end : Position
+  pub ends : end .offset ≡ r .at
+  pub units : Units s p end (partBytes s (r .part)) notes
   pub inside : PartWithin s (r .part)
   pub plain :
-      r .plain ≡ true
-      → (r .part ≡ part.Bytes (p .offset) (r .at .offset)) × PastRun (isPlain (ch "\"") (ch "$") (ch "\\")) s p (r .at)
+      r .plain ≡ true → (r .part ≡ part.Bytes (p .offset) (end .offset)) × PastRun (isPlain (ch "\"") (ch "$") (ch "\\")) s p end
   pub bad : r .bad ≡ not (isEmpty notes)
-  pub forth : p .offset < r .at .offset
+  pub forth : p .offset < end .offset
 
 -- The next part, or no unit stands there.
 abbrev pub NextBy : Bool → List ℕ → Position → Step → Type 0
 NextBy true s p r = stands (charsAt s (p .offset)) ≡ false
 NextBy false s p r = GoesOn s p r
 
-abbrev pub NextAt : List ℕ → Position → Step → Type 0
-NextAt s p r = NextBy (r .over) s p r
+-- The next part from a place on, whatever line and column it has.
+abbrev pub NextAt : List ℕ → ℕ → Step → Type 0
+NextAt s at r = (p : Position) → p .offset ≡ at → Within s p → NextBy (r .over) s p r

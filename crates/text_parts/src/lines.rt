@@ -4,7 +4,7 @@ ghost use mathlib.Core.Path.{_≡_};
 ghost use mathlib.Core.Bool.{true};
 ghost use Prim.Native.Nat.{_<_};
 ghost use Rattle.docs.specs.Texts.{feedsAfter};
-ghost use Rattle.text_parts.specs.Lines.{LARGEST, GoodLine, GoodCursor, atLine, Passed, Begun, BehindLine, NextAt};
+ghost use Rattle.text_parts.specs.Lines.{LARGEST, GoodLine, GoodCursor, atLine, behindFeed, Passed, Begun, BehindLine, NextAt};
 use super::Part;
 use doc_lines::Line;
 
@@ -95,6 +95,20 @@ fn behind_line(part: &[u8], c: Cursor) -> Cursor
     past_empty(part, at_line(l, 1))
 }
 
+// One line feed less waits.
+fn behind_feed(c: Cursor) -> Cursor
+    requires { ⌜ 0 < c .feeds ⌝ }
+    ensures { λ r. ⌜ r ≡ behindFeed c ⌝ }
+{
+    Cursor {
+        from: c.from,
+        to: c.to,
+        feeds: c.feeds - 1,
+        next: c.next,
+        last: c.last,
+    }
+}
+
 // The next part: a line feed that waits, or the line.
 pub fn next(part: &[u8], c: Cursor) -> Step
     requires { ⌜ GoodCursor (now part) c ⌝ }
@@ -108,16 +122,9 @@ pub fn next(part: &[u8], c: Cursor) -> Step
         };
     }
     if 0 < c.feeds {
-        let behind = Cursor {
-            from: c.from,
-            to: c.to,
-            feeds: c.feeds - 1,
-            next: c.next,
-            last: c.last,
-        };
         return Step {
             part: Part::Char(LINE_FEED),
-            cursor: behind,
+            cursor: behind_feed(c),
             over: false,
         };
     }

@@ -3,19 +3,18 @@ use mathlib.Core.Path.{sym, subst}
 use mathlib.Core.Bool.{true, false}
 use borrow.Author.Needs.{needs}
 use Rattle.spans.specs.declared.Position.{Position}
-use Rattle.bridge.specs.Bridge.{Within, NextAt}
-use Rattle.print_places.specs.Places.{placed}
+use Rattle.bridge.specs.Bridge.{placed, Within, NextAt}
 use Rattle.print_loop.proofs.Turns.{nothing-left, unexpected-wrong, last-at}
 use Rattle.print_loop.proofs.end_at.Statement.{statement}
 use Rattle.print_loop.proofs.end_at.Tie as tie
 
-placed-requires : tie.Need-placed-requires
-placed-requires c κs = search needs
+at-place-requires : tie.Need-at-place-requires
+at-place-requires c κs = search needs
 
 look-requires : tie.Need-look-requires
 look-requires c κs =
     let i = c .before .before in
-    subst (Within (i .args .text .now)) (sym (c .placed .ensures)) (i .pre .0)
+    subst (Within (i .args .text .now)) (sym (c .at-place .ensures)) (i .pre .0)
 
 enum-told : tie.Need-enum-told
 enum-told c = search needs
@@ -33,7 +32,7 @@ returns c =
     let p = l .before in
     let a = p .before .before .args in
     let s = a .text .now in
-    let n = subst (λ (q : Position). NextAt s q (l .look .result)) (p .placed .ensures) (l .look .ensures) in
+    let n = subst (λ (q : Position). NextAt s q (l .look .result)) (p .at-place .ensures) (l .look .ensures) in
     let e = subst (NextAt s (placed (a .from))) (t .enum-told2 .given .1) n in
     last-at s (a .from) (a .at) false _ (c .last .ensures) (nothing-left s (a .from) e)
 
@@ -48,7 +47,7 @@ returns-2 c =
     let i = p .before .before in
     let a = i .args in
     let s = a .text .now in
-    let n = subst (λ (q : Position). NextAt s q (l .look .result)) (p .placed .ensures) (l .look .ensures) in
+    let n = subst (λ (q : Position). NextAt s q (l .look .result)) (p .at-place .ensures) (l .look .ensures) in
     let x = subst (NextAt s (placed (a .from))) (t .enum-told .given .1) n in
     last-at s (a .from) (a .at) true _ (c .last2 .ensures) (unexpected-wrong s (a .from) (i .pre .1) _ _ (x .0 .chars))
 
@@ -56,7 +55,7 @@ pub end-at-spec : {M : Type 1} → statement M
 end-at-spec =
     tie.close
     (tie.spec
-    placed-requires
+    at-place-requires
     look-requires
     enum-told
     enum-told-2

@@ -2,7 +2,7 @@
 use mathlib.Core.Path.{sym, _∙_}
 use native.Mathlib.Omega.{arith}
 use borrow.Author.Needs.{needs}
-use Rattle.print_loop.proofs.Turns.{due-length, skip-open, skip-closed, thing-turn, last-turn, wrong-turn, turned-as}
+use Rattle.print_loop.proofs.Turns.{due-length, skip-open, skip-closed, element-turn, last-turn, wrong-turn, turned-as}
 use Rattle.print_loop.proofs.next.Statement.{statement}
 use Rattle.print_loop.proofs.next.Tie as tie
 
@@ -41,8 +41,8 @@ returns-2 c =
 put-space-requires : tie.Need-put-space-requires
 put-space-requires c κs = search needs
 
-put-thing-requires : tie.Need-put-thing-requires
-put-thing-requires c κs =
+put-element-requires : tie.Need-put-element-requires
+put-element-requires c κs =
     let p = c .before .before .before in
     let z = p .before .before in
     let y = z .before in
@@ -69,7 +69,7 @@ returns-3 c =
     let s = a .text .now in
     let w = skip-closed s (a .from) _ (k .skip .ensures) (y .before .if1 .left) in
     turned-as s (a .from) (a .due) _ _ (a .at) _ _ (c .turn-of .ensures)
-    (thing-turn s (a .from) _ (w .passed) (a .due) _ _ _ (a .at) _ (p .put-space .ensures) (t .put-thing .result) (t .put-thing .ensures))
+    (element-turn s (a .from) _ (w .passed) (a .due) _ _ _ (a .at) _ (p .put-space .ensures) (t .put-element .result) (t .put-element .ensures))
 
 pub next-spec : {M : Type 1} → statement M
 next-spec =
@@ -82,7 +82,7 @@ next-spec =
     end-at-requires
     returns-2
     put-space-requires
-    put-thing-requires
+    put-element-requires
     turn-of-requires
     same-length
     returns-3)

@@ -3,20 +3,19 @@ use mathlib.Core.Path.{sym, _∙_, subst}
 use native.Mathlib.Omega.{arith}
 use borrow.Author.Needs.{needs}
 use Rattle.spans.specs.declared.Position.{Position}
-use Rattle.bridge.specs.Bridge.{Within, NextAt}
+use Rattle.bridge.specs.Bridge.{placed, Within, NextAt}
 use Rattle.skipping.proofs.Skips.{stops-at, stops-end}
-use Rattle.print_places.specs.Places.{placed}
 use Rattle.print_skips.proofs.Passing.{passed-none, white-passed}
 use Rattle.print_skips.proofs.past_wide.Statement.{statement}
 use Rattle.print_skips.proofs.past_wide.Tie as tie
 
-placed-requires : tie.Need-placed-requires
-placed-requires c κs = search needs
+at-place-requires : tie.Need-at-place-requires
+at-place-requires c κs = search needs
 
 look-requires : tie.Need-look-requires
 look-requires c κs =
     let i = c .before .before in
-    subst (Within (i .args .text .now)) (sym (c .placed .ensures)) (i .pre)
+    subst (Within (i .args .text .now)) (sym (c .at-place .ensures)) (i .pre)
 
 enum-known-c : tie.Need-enum-known-c
 enum-known-c c = search needs
@@ -31,7 +30,7 @@ returns c =
     let i = p .before .before in
     let s = i .args .text .now in
     let f = i .args .from in
-    let n = subst (λ (q : Position). NextAt s q (l .look .result)) (p .placed .ensures) (l .look .ensures) in
+    let n = subst (λ (q : Position). NextAt s q (l .look .result)) (p .at-place .ensures) (l .look .ensures) in
     let e = subst (NextAt s (placed f)) (c .enum-told .given .1) n in
     record { passed = passed-none s f (i .pre); stops = λ _. stops-end _ e }
 
@@ -48,7 +47,7 @@ returns-2 c =
     let s = i .args .text .now in
     let f = i .args .from in
     let g = k .c .given in
-    let n = subst (λ (q : Position). NextAt s q (l .look .result)) (p .placed .ensures) (l .look .ensures) in
+    let n = subst (λ (q : Position). NextAt s q (l .look .result)) (p .at-place .ensures) (l .look .ensures) in
     let x = subst (NextAt s (placed f)) (g .1) n in
     let h = x .1 in
     record {
@@ -66,7 +65,7 @@ returns-3 c =
     let s = i .args .text .now in
     let f = i .args .from in
     let g = k .c .given in
-    let n = subst (λ (q : Position). NextAt s q (l .look .result)) (p .placed .ensures) (l .look .ensures) in
+    let n = subst (λ (q : Position). NextAt s q (l .look .result)) (p .at-place .ensures) (l .look .ensures) in
     let x = subst (NextAt s (placed f)) (g .1) n in
     record {
       passed = passed-none s f (i .pre);
@@ -77,7 +76,7 @@ pub past-wide-spec : {M : Type 1} → statement M
 past-wide-spec =
     tie.close
     (tie.spec
-    placed-requires
+    at-place-requires
     look-requires
     enum-known-c
     enum-told

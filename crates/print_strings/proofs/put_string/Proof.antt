@@ -1,7 +1,6 @@
 -- `print_strings::put_string` meets its contract. The invariant: the string was written up to here, and what is still to be written
 -- goes on from here. The measure is what is left of the script. Assumes nothing.
-use mathlib.Core.Path.{_∙_, sym, ap, subst}
-use mathlib.Core.Bool.{Bool}
+use mathlib.Core.Path.{_∙_, sym}
 use mathlib.Core.List.{List, [], _∷_}
 use Prim.Native.Nat.{ℕ, _-_}
 use native.Mathlib.Omega.{arith}
@@ -9,127 +8,108 @@ use lib.ListN.{length}
 use borrow.Author.Needs.{needs}
 use borrow.Author.Tests.{not-true, not-false}
 use Rattle.rules.specs.Text.{ch}
-use Rattle.bridge.specs.Bridge.{onward}
 use Rattle.output.specs.Writing.{Put}
-use Rattle.output.proofs.Buffers.{put-length}
-use Rattle.print_strings.specs.Strings.{RowBy, InterpolationBy}
-use Rattle.print_strings.proofs.Interps.{interp-long}
-use Rattle.print_strings.proofs.Loops.{Stringing, string-start, string-closed, string-more, string-wrong, row-room, row-wrong, interp-wrong, shown-wrong}
+use Rattle.print_strings.proofs.Loops.{StringingAt, string-begin, at-within, at-small, at-length, at-bad, at-room, row-within, at-closed, at-stuck, at-open, at-more, at-less, emitted-wrong}
 use Rattle.print_strings.proofs.put_string.Statement.{statement}
 use Rattle.print_strings.proofs.put_string.Tie as tie
 
 abbrev Inv-loop : tie.InvT-loop
 Inv-loop s from out₀ at c₀ place₀ named₀ out c place named =
-    (first : List ℕ) → Put first out₀ at (ch "\"" ∷ []) place₀ → Stringing s from first out at c place named
+    (first : List ℕ) → Put first out₀ at (ch "\"" ∷ []) place₀ → StringingAt s from first out at c place named
 
 abbrev μ-loop : tie.MeasureT-loop
-μ-loop s from out₀ at c₀ place₀ named₀ out c place named = length s - c .offset
+μ-loop s from out₀ at c₀ place₀ named₀ out c place named = length s - c
 
-placed-requires : tie.Need-placed-requires Inv-loop μ-loop
-placed-requires c κs = search needs
-
-along-requires : tie.Need-along-requires Inv-loop μ-loop
-along-requires c κs =
-    let w = c .before .before .before .pre .0 in
-    rw (c .placed .ensures) (record { places = omega (arith, w .inside, w .size); lines = omega arith; columns = omega arith })
+add-c : tie.Need-add-c Inv-loop μ-loop
+add-c c =
+    let w = c .before .before .pre .0 in
+    omega (arith, w .inside, w .size)
 
 put-byte-requires : tie.Need-put-byte-requires Inv-loop μ-loop
 put-byte-requires c κs = search needs
 
 loop-holds : tie.Need-loop-holds Inv-loop μ-loop
 loop-holds c =
-    let at-put-byte = c .before .before in
-    let at-along = at-put-byte .before .before in
-    let at-placed = at-along .before in
-    let i = at-placed .before .before .before in
-    let e = at-along .along .ensures ∙ ap (λ p. onward p 1) (at-placed .placed .ensures) in
-    λ first p. string-start (i .args .s .now) (i .args .from) (i .pre .0) (i .pre .1 .0) (i .pre .1 .1 .0) first _ _ _ _ e p
+    let i = c .before .before .before .before .before .before in
+    λ first p. string-begin (i .args .s .now) (i .args .from) (i .pre .0) (i .pre .1 .0) (i .pre .1 .1 .0) first _ _ _ p
 
 put-units-requires : tie.Need-put-units-requires Inv-loop μ-loop
 put-units-requires c κs =
     let at-put-byte = c .before .before .before .before in
-    let i = at-put-byte .before .before .before .before .before .before in
+    let i = at-put-byte .before .before .before .before in
     let y = c .before .loop .inv (i .args .out .now) (at-put-byte .put-byte .ensures) in
-    let v = y .within in
-    (v, omega (arith, y .small, v .inside, v .size, i .pre .1 .1 .1))
+    (at-within _ _ _ _ _ _ _ _ y, omega (arith, at-small _ _ _ _ _ _ _ _ y, i .pre .0 .size, i .pre .1 .1 .1))
 
 wrong-requires : tie.Need-wrong-requires Inv-loop μ-loop
 wrong-requires c κs = search needs
 
 same-length : tie.Need-same-length Inv-loop μ-loop
 same-length c =
-    let at-put-units = c .before .before .before .before .before in
+    let at-put-units = c .before .before .before .before in
     let at-put-byte = at-put-units .before .before .before .before .before in
-    let i = at-put-byte .before .before .before .before .before .before in
+    let i = at-put-byte .before .before .before .before in
     let y = at-put-units .before .before .loop .inv (i .args .out .now) (at-put-byte .put-byte .ensures) in
-    at-put-units .put-units .kept .1 .1 .1 .0 ∙ put-length _ _ _ _ _ (y .put)
+    at-put-units .put-units .kept .1 .1 .1 .0 ∙ at-length _ _ _ _ _ _ _ _ y
 
 returns : tie.Need-returns Inv-loop μ-loop
 returns c =
-    let at-put-units = c .before .before .before .before .before in
-    let w = at-put-units .before .before .loop in
+    let at-if1 = c .before in
+    let at-put-units = at-if1 .before .before .before in
     let at-put-byte = at-put-units .before .before .before .before .before in
-    let i = at-put-byte .before .before .before .before .before .before in
-    let y = w .inv (i .args .out .now) (at-put-byte .put-byte .ensures) in
-    let s = i .args .s .now in
+    let i = at-put-byte .before .before .before .before in
+    let y = at-put-units .before .before .loop .inv (i .args .out .now) (at-put-byte .put-byte .ensures) in
     let r = at-put-units .put-units .result in
-    let out = at-put-units .put-units .last .1 .1 .1 .0 in
-    let h = subst (λ (b : Bool). RowBy b s (w .c) (w .named) (w .out) out (w .place) r) (c .before .if1 .taken) (at-put-units .put-units .ensures) in
-    shown-wrong s (i .args .from) _ _ _ _ (c .wrong .ensures) (row-wrong _ _ _ _ _ _ _ _ y out r h)
+    let h = at-put-units .put-units .ensures in
+    emitted-wrong (i .args .s .now) (i .args .from) _ _ _ _ (c .wrong .ensures) (at-bad _ _ _ _ _ _ _ _ y _ r h (at-if1 .if1 .taken))
 
 is-at-requires : tie.Need-is-at-requires Inv-loop μ-loop
 is-at-requires c κs = search needs
 
-add-t18 : tie.Need-add-t18 Inv-loop μ-loop
-add-t18 c =
-    let at-if1 = c .before .before .before in
-    let at-put-units = at-if1 .before .before .before .before in
-    let w = at-put-units .before .before .loop in
-    let s = at-put-units .before .before .before .before .before .before .before .before .before .before .before .args .s .now in
+add-behind : tie.Need-add-behind Inv-loop μ-loop
+add-behind c =
+    let at-if1 = c .before .before in
+    let at-put-units = at-if1 .before .before .before in
+    let at-put-byte = at-put-units .before .before .before .before .before in
+    let i = at-put-byte .before .before .before .before in
+    let y = at-put-units .before .before .loop .inv (i .args .out .now) (at-put-byte .put-byte .ensures) in
     let r = at-put-units .put-units .result in
-    let out = at-put-units .put-units .last .1 .1 .1 .0 in
-    let z = subst (λ (b : Bool). RowBy b s (w .c) (w .named) (w .out) out (w .place) r) (at-if1 .if1 .left) (at-put-units .put-units .ensures) in
-    omega (arith, z .reach .within .inside, z .reach .within .size)
+    let h = at-put-units .put-units .ensures in
+    let v = row-within _ _ _ _ _ _ _ _ y _ r h (at-if1 .if1 .left) in
+    omega (arith, v .inside, v .size)
 
 put-byte-requires-2 : tie.Need-put-byte-requires-2 Inv-loop μ-loop
 put-byte-requires-2 c κs =
-    let at-if1 = c .before .before .before .before in
-    let at-put-units = at-if1 .before .before .before .before in
-    let w = at-put-units .before .before .loop in
+    let at-if1 = c .before .before .before in
+    let at-put-units = at-if1 .before .before .before in
     let at-put-byte = at-put-units .before .before .before .before .before in
-    let i = at-put-byte .before .before .before .before .before .before in
-    let y = w .inv (i .args .out .now) (at-put-byte .put-byte .ensures) in
-    let s = i .args .s .now in
+    let i = at-put-byte .before .before .before .before in
+    let y = at-put-units .before .before .loop .inv (i .args .out .now) (at-put-byte .put-byte .ensures) in
     let r = at-put-units .put-units .result in
-    let out = at-put-units .put-units .last .1 .1 .1 .0 in
-    let z = subst (λ (b : Bool). RowBy b s (w .c) (w .named) (w .out) out (w .place) r) (at-if1 .if1 .left) (at-put-units .put-units .ensures) in
-    omega (arith, row-room _ _ _ _ _ _ _ _ y out r z, i .pre .0 .size, i .pre .1 .1 .1)
+    let h = at-put-units .put-units .ensures in
+    omega (arith, at-room _ _ _ _ _ _ _ _ y _ r h (at-if1 .if1 .left), i .pre .0 .size, i .pre .1 .1 .1)
 
 same-length-2 : tie.Need-same-length-2 Inv-loop μ-loop
 same-length-2 c =
     let at-put-byte2 = c .before .before in
-    let at-put-units = at-put-byte2 .before .before .before .before .before .before .before .before .before in
+    let at-put-units = at-put-byte2 .before .before .before .before .before .before .before in
     let at-put-byte = at-put-units .before .before .before .before .before in
-    let i = at-put-byte .before .before .before .before .before .before in
+    let i = at-put-byte .before .before .before .before in
     let y = at-put-units .before .before .loop .inv (i .args .out .now) (at-put-byte .put-byte .ensures) in
-    at-put-byte2 .put-byte2 .kept .0 ∙ (at-put-units .put-units .kept .1 .1 .1 .0 ∙ put-length _ _ _ _ _ (y .put))
+    at-put-byte2 .put-byte2 .kept .0 ∙ (at-put-units .put-units .kept .1 .1 .1 .0 ∙ at-length _ _ _ _ _ _ _ _ y)
 
 returns-2 : tie.Need-returns-2 Inv-loop μ-loop
 returns-2 c =
     let at-put-byte2 = c .before .before in
-    let at-if2 = at-put-byte2 .before .before .before in
+    let at-if2 = at-put-byte2 .before .before in
     let at-is-at = at-if2 .before in
     let at-if1 = at-is-at .before in
-    let at-put-units = at-if1 .before .before .before .before in
-    let w = at-put-units .before .before .loop in
+    let at-put-units = at-if1 .before .before .before in
     let at-put-byte = at-put-units .before .before .before .before .before in
-    let i = at-put-byte .before .before .before .before .before .before in
-    let y = w .inv (i .args .out .now) (at-put-byte .put-byte .ensures) in
-    let s = i .args .s .now in
+    let i = at-put-byte .before .before .before .before in
+    let y = at-put-units .before .before .loop .inv (i .args .out .now) (at-put-byte .put-byte .ensures) in
     let r = at-put-units .put-units .result in
-    let out = at-put-units .put-units .last .1 .1 .1 .0 in
-    let z = subst (λ (b : Bool). RowBy b s (w .c) (w .named) (w .out) out (w .place) r) (at-if1 .if1 .left) (at-put-units .put-units .ensures) in
-    string-closed _ _ _ _ _ _ _ _ y out r z (sym (at-is-at .is-at .ensures) ∙ at-if2 .if2 .taken) _ _ (at-put-byte2 .put-byte2 .ensures)
+    let h = at-put-units .put-units .ensures in
+    at-closed _ _ _ _ _ _ _ _ y _ r h (at-if1 .if1 .left) (sym (at-is-at .is-at .ensures) ∙ at-if2 .if2 .taken) _ _ (at-put-byte2 .put-byte2 .ensures)
 
 is-at-requires-2 : tie.Need-is-at-requires-2 Inv-loop μ-loop
 is-at-requires-2 c κs = search needs
@@ -139,11 +119,11 @@ wrong-requires-2 c κs = search needs
 
 same-length-3 : tie.Need-same-length-3 Inv-loop μ-loop
 same-length-3 c =
-    let at-put-units = c .before .before .before .before .before .before .before .before .before in
+    let at-put-units = c .before .before .before .before .before .before .before .before in
     let at-put-byte = at-put-units .before .before .before .before .before in
-    let i = at-put-byte .before .before .before .before .before .before in
+    let i = at-put-byte .before .before .before .before in
     let y = at-put-units .before .before .loop .inv (i .args .out .now) (at-put-byte .put-byte .ensures) in
-    at-put-units .put-units .kept .1 .1 .1 .0 ∙ put-length _ _ _ _ _ (y .put)
+    at-put-units .put-units .kept .1 .1 .1 .0 ∙ at-length _ _ _ _ _ _ _ _ y
 
 returns-3 : tie.Need-returns-3 Inv-loop μ-loop
 returns-3 c =
@@ -152,106 +132,89 @@ returns-3 c =
     let at-if2 = at-is-at2 .before in
     let at-is-at = at-if2 .before in
     let at-if1 = at-is-at .before in
-    let at-put-units = at-if1 .before .before .before .before in
-    let w = at-put-units .before .before .loop in
+    let at-put-units = at-if1 .before .before .before in
     let at-put-byte = at-put-units .before .before .before .before .before in
-    let i = at-put-byte .before .before .before .before .before .before in
-    let y = w .inv (i .args .out .now) (at-put-byte .put-byte .ensures) in
-    let s = i .args .s .now in
+    let i = at-put-byte .before .before .before .before in
+    let y = at-put-units .before .before .loop .inv (i .args .out .now) (at-put-byte .put-byte .ensures) in
     let r = at-put-units .put-units .result in
-    let out = at-put-units .put-units .last .1 .1 .1 .0 in
-    let z = subst (λ (b : Bool). RowBy b s (w .c) (w .named) (w .out) out (w .place) r) (at-if1 .if1 .left) (at-put-units .put-units .ensures) in
+    let h = at-put-units .put-units .ensures in
     let q = sym (at-is-at .is-at .ensures) ∙ at-if2 .if2 .left in
     let d = sym (at-is-at2 .is-at2 .ensures) ∙ not-true _ (at-if3 .if3 .taken) in
-    shown-wrong s (i .args .from) _ _ _ _ (c .wrong2 .ensures) (string-wrong _ _ _ _ _ _ _ _ y out r z q d)
+    emitted-wrong (i .args .s .now) (i .args .from) _ _ _ _ (c .wrong2 .ensures) (at-stuck _ _ _ _ _ _ _ _ y _ r h (at-if1 .if1 .left) q d)
 
 put-interpolation-requires : tie.Need-put-interpolation-requires Inv-loop μ-loop
 put-interpolation-requires c κs =
     let at-if3 = c .before in
     let at-is-at2 = at-if3 .before in
     let at-if1 = at-is-at2 .before .before .before in
-    let at-put-units = at-if1 .before .before .before .before in
-    let w = at-put-units .before .before .loop in
+    let at-put-units = at-if1 .before .before .before in
     let at-put-byte = at-put-units .before .before .before .before .before in
-    let i = at-put-byte .before .before .before .before .before .before in
-    let y = w .inv (i .args .out .now) (at-put-byte .put-byte .ensures) in
-    let s = i .args .s .now in
+    let i = at-put-byte .before .before .before .before in
+    let y = at-put-units .before .before .loop .inv (i .args .out .now) (at-put-byte .put-byte .ensures) in
     let r = at-put-units .put-units .result in
-    let out = at-put-units .put-units .last .1 .1 .1 .0 in
-    let z = subst (λ (b : Bool). RowBy b s (w .c) (w .named) (w .out) out (w .place) r) (at-if1 .if1 .left) (at-put-units .put-units .ensures) in
+    let h = at-put-units .put-units .ensures in
+    let b = at-if1 .if1 .left in
     let d = sym (at-is-at2 .is-at2 .ensures) ∙ not-false _ (at-if3 .if3 .left) in
-    (z .reach .within, (d, omega (arith, row-room _ _ _ _ _ _ _ _ y out r z, i .pre .0 .size, i .pre .1 .1 .1)))
+    (row-within _ _ _ _ _ _ _ _ y _ r h b, (d, omega (arith, at-room _ _ _ _ _ _ _ _ y _ r h b, i .pre .0 .size, i .pre .1 .1 .1)))
 
 wrong-requires-3 : tie.Need-wrong-requires-3 Inv-loop μ-loop
 wrong-requires-3 c κs = search needs
 
 same-length-4 : tie.Need-same-length-4 Inv-loop μ-loop
 same-length-4 c =
-    let at-put-interpolation = c .before .before .before .before .before in
-    let at-put-units = at-put-interpolation .before .before .before .before .before .before .before .before .before .before in
+    let at-put-interpolation = c .before .before .before .before in
+    let at-put-units = at-put-interpolation .before .before .before .before .before .before .before .before .before in
     let at-put-byte = at-put-units .before .before .before .before .before in
-    let i = at-put-byte .before .before .before .before .before .before in
+    let i = at-put-byte .before .before .before .before in
     let y = at-put-units .before .before .loop .inv (i .args .out .now) (at-put-byte .put-byte .ensures) in
-    at-put-interpolation .put-interpolation .kept .1 .1 .1 .0 ∙ (at-put-units .put-units .kept .1 .1 .1 .0 ∙ put-length _ _ _ _ _ (y .put))
+    at-put-interpolation .put-interpolation .kept .1 .1 .1 .0 ∙ (at-put-units .put-units .kept .1 .1 .1 .0 ∙ at-length _ _ _ _ _ _ _ _ y)
 
 returns-4 : tie.Need-returns-4 Inv-loop μ-loop
 returns-4 c =
     let at-if4 = c .before in
-    let at-put-interpolation = at-if4 .before .before .before .before in
+    let at-put-interpolation = at-if4 .before .before .before in
     let at-if3 = at-put-interpolation .before .before in
     let at-is-at2 = at-if3 .before in
     let at-if1 = at-is-at2 .before .before .before in
-    let at-put-units = at-if1 .before .before .before .before in
-    let w = at-put-units .before .before .loop in
+    let at-put-units = at-if1 .before .before .before in
     let at-put-byte = at-put-units .before .before .before .before .before in
-    let i = at-put-byte .before .before .before .before .before .before in
-    let y = w .inv (i .args .out .now) (at-put-byte .put-byte .ensures) in
-    let s = i .args .s .now in
+    let i = at-put-byte .before .before .before .before in
+    let y = at-put-units .before .before .loop .inv (i .args .out .now) (at-put-byte .put-byte .ensures) in
     let r = at-put-units .put-units .result in
-    let out = at-put-units .put-units .last .1 .1 .1 .0 in
-    let z = subst (λ (b : Bool). RowBy b s (w .c) (w .named) (w .out) out (w .place) r) (at-if1 .if1 .left) (at-put-units .put-units .ensures) in
+    let h = at-put-units .put-units .ensures in
     let d = sym (at-is-at2 .is-at2 .ensures) ∙ not-false _ (at-if3 .if3 .left) in
-    let out2 = at-put-interpolation .put-interpolation .last .1 .1 .1 .0 in
-    let x = at-put-interpolation .put-interpolation .result in
-    let h = subst (λ (b : Bool). InterpolationBy b s (r .at) (r .named) out out2 (r .out) x) (at-if4 .if4 .taken) (at-put-interpolation .put-interpolation .ensures) in
-    shown-wrong s (i .args .from) _ _ _ _ (c .wrong3 .ensures) (interp-wrong _ _ _ _ _ _ _ _ y out r z d (x .at) h)
+    let g = at-put-interpolation .put-interpolation .ensures in
+    emitted-wrong (i .args .s .now) (i .args .from) _ _ _ _ (c .wrong3 .ensures) (at-open _ _ _ _ _ _ _ _ y _ r h (at-if1 .if1 .left) d _ _ g (at-if4 .if4 .taken))
 
 loop-less : tie.Need-loop-less Inv-loop μ-loop
 loop-less c =
-    let at-put-interpolation = c .before .before .before .before in
-    let at-if1 = at-put-interpolation .before .before .before .before .before .before in
-    let at-put-units = at-if1 .before .before .before .before in
-    let w = at-put-units .before .before .loop in
-    let at-put-byte = at-put-units .before .before .before .before .before in
-    let i = at-put-byte .before .before .before .before .before .before in
-    let y = w .inv (i .args .out .now) (at-put-byte .put-byte .ensures) in
-    let s = i .args .s .now in
-    let r = at-put-units .put-units .result in
-    let out = at-put-units .put-units .last .1 .1 .1 .0 in
-    let z = subst (λ (b : Bool). RowBy b s (w .c) (w .named) (w .out) out (w .place) r) (at-if1 .if1 .left) (at-put-units .put-units .ensures) in
-    let out2 = at-put-interpolation .put-interpolation .last .1 .1 .1 .0 in
-    let x = at-put-interpolation .put-interpolation .result in
-    let v = subst (λ (b : Bool). InterpolationBy b s (r .at) (r .named) out out2 (r .out) x) (c .if4 .left) (at-put-interpolation .put-interpolation .ensures) in
-    omega (arith, z .forth, interp-long s (r .at) (x .at) (v .reach), v .reach .within .inside)
-
-loop-again : tie.Need-loop-again Inv-loop μ-loop
-loop-again c = λ first p.
-    let at-put-interpolation = c .before .before .before .before in
+    let at-put-interpolation = c .before .before .before in
     let at-if3 = at-put-interpolation .before .before in
     let at-is-at2 = at-if3 .before in
     let at-if1 = at-is-at2 .before .before .before in
-    let at-put-units = at-if1 .before .before .before .before in
-    let w = at-put-units .before .before .loop in
-    let y = w .inv first p in
-    let s = at-put-units .before .before .before .before .before .before .before .before .before .before .before .args .s .now in
+    let at-put-units = at-if1 .before .before .before in
+    let at-put-byte = at-put-units .before .before .before .before .before in
+    let i = at-put-byte .before .before .before .before in
+    let y = at-put-units .before .before .loop .inv (i .args .out .now) (at-put-byte .put-byte .ensures) in
     let r = at-put-units .put-units .result in
-    let out = at-put-units .put-units .last .1 .1 .1 .0 in
-    let z = subst (λ (b : Bool). RowBy b s (w .c) (w .named) (w .out) out (w .place) r) (at-if1 .if1 .left) (at-put-units .put-units .ensures) in
+    let h = at-put-units .put-units .ensures in
     let d = sym (at-is-at2 .is-at2 .ensures) ∙ not-false _ (at-if3 .if3 .left) in
-    let out2 = at-put-interpolation .put-interpolation .last .1 .1 .1 .0 in
-    let x = at-put-interpolation .put-interpolation .result in
-    let v = subst (λ (b : Bool). InterpolationBy b s (r .at) (r .named) out out2 (r .out) x) (c .if4 .left) (at-put-interpolation .put-interpolation .ensures) in
-    string-more _ _ _ _ _ _ _ _ y out r z d out2 x v
+    let g = at-put-interpolation .put-interpolation .ensures in
+    omega (arith, at-less _ _ _ _ _ _ _ _ y _ r h (at-if1 .if1 .left) d _ _ g (c .if4 .left))
+
+loop-again : tie.Need-loop-again Inv-loop μ-loop
+loop-again c = λ first p.
+    let at-put-interpolation = c .before .before .before in
+    let at-if3 = at-put-interpolation .before .before in
+    let at-is-at2 = at-if3 .before in
+    let at-if1 = at-is-at2 .before .before .before in
+    let at-put-units = at-if1 .before .before .before in
+    let y = at-put-units .before .before .loop .inv first p in
+    let r = at-put-units .put-units .result in
+    let h = at-put-units .put-units .ensures in
+    let d = sym (at-is-at2 .is-at2 .ensures) ∙ not-false _ (at-if3 .if3 .left) in
+    let g = at-put-interpolation .put-interpolation .ensures in
+    at-more _ _ _ _ _ _ _ _ y _ r h (at-if1 .if1 .left) d _ _ g (c .if4 .left)
 
 pub put-string-spec : {M : Type 1} → statement M
 put-string-spec =
@@ -259,8 +222,7 @@ put-string-spec =
     (tie.spec
     Inv-loop
     μ-loop
-    placed-requires
-    along-requires
+    add-c
     put-byte-requires
     loop-holds
     put-units-requires
@@ -268,7 +230,7 @@ put-string-spec =
     same-length
     returns
     is-at-requires
-    add-t18
+    add-behind
     put-byte-requires-2
     same-length-2
     returns-2

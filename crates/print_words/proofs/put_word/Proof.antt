@@ -1,7 +1,7 @@
 -- `put_word` meets its contract. Assumes nothing.
 use mathlib.Core.Path.{refl}
 use borrow.Author.Needs.{needs}
-use Rattle.print_words.proofs.Shown.{ends-shows}
+use Rattle.print_words.proofs.Emitted.{ends-emits}
 use Rattle.print_words.proofs.put_word.Statement.{statement}
 use Rattle.print_words.proofs.put_word.Tie as tie
 
@@ -20,7 +20,7 @@ returns c =
     let a = start .args in
     let x = c .before .before .before .before .word-end .ensures in
     let put = c .before .before .put-part .ensures in
-    ends-shows (a .text .now) (a .from) (a .class) _ (start .pre .1 .1 .1 .0) x (start .pre .1 .1 .0) _ _ (a .at) _ refl put
+    ends-emits (a .text .now) (a .from) (a .class) _ (start .pre .1 .1 .1 .0) x (start .pre .1 .1 .0) _ _ (a .at) _ refl put
 
 pub put-word-spec : {M : Type 1} → statement M
 put-word-spec = tie.close (tie.spec word-end-requires put-part-requires same-length returns)

@@ -1,70 +1,66 @@
 -- `text_parts::units::next` meets its contract. Assumes nothing.
 use mathlib.Core.Path.{sym, _∙_, subst}
+use native.Mathlib.Omega.{arith}
 use borrow.Author.Needs.{needs}
-use Rattle.string_units.specs.Units.{FoundAt}
-use Rattle.text_parts.proofs.Strings.{quote-over, plain-on, unit-on}
+use Rattle.text_parts.specs.Units.{NextAt}
+use Rattle.text_parts.proofs.Strings.{quote-over, plain-on, none-on, short-on}
 use Rattle.text_parts.proofs.units.next.Statement.{statement}
 use Rattle.text_parts.proofs.units.next.Tie as tie
 
-past-plain-requires : tie.Need-past-plain-requires
-past-plain-requires c κs = search needs
+plain-end-requires : tie.Need-plain-end-requires
+plain-end-requires c κs = search needs
 
 returns : tie.Need-returns
-returns c =
-    let at-past-plain = c .before in
-    let i = at-past-plain .before .before in
-    let a = i .args in
-    plain-on (a .text .now) (a .p) (at-past-plain .past-plain .result) (i .pre) (at-past-plain .past-plain .ensures) (c .if1 .taken)
+returns c = plain-on _ _ _ (c .before .plain-end .ensures) (c .if1 .taken)
 
 is-at-requires : tie.Need-is-at-requires
 is-at-requires c κs = search needs
 
+over-step-requires : tie.Need-over-step-requires
+over-step-requires c κs = search needs
+
 returns-2 : tie.Need-returns-2
-returns-2 c = quote-over _ _ (sym (c .before .is-at .ensures) ∙ c .if2 .taken)
+returns-2 c =
+    let at-if2 = c .before in
+    let at-is-at = at-if2 .before in
+    let a = at-is-at .before .before .before .before .args in
+    subst (NextAt (a .text .now) (a .from)) (sym (c .over-step .ensures))
+    (none-on _ _ (quote-over _ _ (sym (at-is-at .is-at .ensures) ∙ at-if2 .if2 .taken)))
 
-unit-at-requires : tie.Need-unit-at-requires
-unit-at-requires c κs = search needs
+short-escape-requires : tie.Need-short-escape-requires
+short-escape-requires c κs =
+    let w = c .before .before .before .before .before .pre in
+    omega (arith, w .inside, w .size)
 
-enum-known-u : tie.Need-enum-known-u
-enum-known-u c = search needs
+cast-made : tie.Need-cast-made
+cast-made c = search needs
 
-enum-told : tie.Need-enum-told
-enum-told c = search needs
+add-behind : tie.Need-add-behind
+add-behind c =
+    let w = c .before .before .before .before .before .before .before .pre in
+    omega (arith, w .inside, w .size)
 
 returns-3 : tie.Need-returns-3
-returns-3 c =
-    let at-unit-at = c .before .before in
-    let a = at-unit-at .before .before .before .before .before .before .args in
-    subst (FoundAt (a .text .now) (a .p)) (c .enum-told .given .1) (at-unit-at .unit-at .ensures)
+returns-3 c = short-on _ _ _ (c .before .short-escape .ensures) (omega arith)
 
-part-of-requires : tie.Need-part-of-requires
-part-of-requires c κs = search needs
-
-is-bad-requires : tie.Need-is-bad-requires
-is-bad-requires c κs = search needs
+unit-step-requires : tie.Need-unit-step-requires
+unit-step-requires c κs = search needs
 
 returns-4 : tie.Need-returns-4
-returns-4 c =
-    let at-part-of = c .before in
-    let at-u = at-part-of .before .before .before in
-    let at-unit-at = at-u .before .before in
-    let a = at-unit-at .before .before .before .before .before .before .args in
-    let s = a .text .now in
-    unit-on s (a .p) _ _ _ (subst (FoundAt s (a .p)) (at-u .u .given .1) (at-unit-at .unit-at .ensures)) (at-part-of .part-of .ensures)
-    (c .is-bad .ensures)
+returns-4 c = c .unit-step .ensures
 
 pub next-spec : {M : Type 1} → statement M
 next-spec =
     tie.close
     (tie.spec
-    past-plain-requires
+    plain-end-requires
     returns
     is-at-requires
+    over-step-requires
     returns-2
-    unit-at-requires
-    enum-known-u
-    enum-told
+    short-escape-requires
+    cast-made
+    add-behind
     returns-3
-    part-of-requires
-    is-bad-requires
+    unit-step-requires
     returns-4)
