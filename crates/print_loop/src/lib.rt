@@ -96,12 +96,12 @@ fn next(
     requires { ⌜ at ≤ FRONT ⌝ }
     ensures { λ r. ⌜ TurnAt (now (text .entry)) from due (now (out .entry)) (now (out .exit)) at r ⌝ }
 {
-    let g = print_skips::skip(text, from);
+    let g = print_skips::skip(classes, text, from);
     let start = g.at;
     if g.open {
         return last(start, at, true);
     }
-    let class = classes::class_at(classes, text, start);
+    let class = g.class;
     if class == classes::OTHER {
         return end_at(text, start, at);
     }

@@ -2,18 +2,16 @@
 use mathlib.Core.Path.{_≡_, refl, sym, _∙_, ap, subst}
 use mathlib.Core.Bool.{Bool, true, false}
 use mathlib.Core.List.{List, [], _∷_}
-use mathlib.Core.Logic.{inl, ⊎-elim}
 use Prim.Native.Nat.{ℕ, _+_, _≤_, _<_}
 use lib.ListN.{getD}
 use native.Mathlib.Omega.{arith}
-use borrow.Author.Tests.{eqb-true, eqb-false, ne-eqb}
-use Rattle.characters.specs.Choice.{_is_, within}
+use borrow.Author.Tests.{ne-eqb, lt-leb}
+use Rattle.characters.specs.Choice.{if_then_else_, _is_, within}
 use Rattle.characters.specs.Space.{isWhite}
 use Rattle.characters.specs.Utf8.{charsAt}
-use Rattle.characters.proofs.Choice.{or-either, or-neither, within-bounds, within-outside}
-use Rattle.characters.proofs.Spaces.{white-alone, white-controls, white-none}
 use Rattle.characters.proofs.Widths.{width-one}
 use Rattle.spans.specs.declared.Position.{Position}
+use Rattle.rules.specs.Text.{isDigit, isLetter, isIdentStart}
 use Rattle.rules.specs.Scan.{next}
 use Rattle.rules.specs.Tables.{UnterminatedBlockComment}
 use Rattle.rules.specs.Lexer.{advance, skip}
@@ -23,6 +21,9 @@ use Rattle.bridge.specs.Bridge.{placed, Within, Reach, exactly}
 use Rattle.bridge.proofs.Tests.{low-is}
 use Rattle.bridge.proofs.Bytes.{byte-next}
 use Rattle.bridge.proofs.Reaches.{advance-offset}
+use Rattle.lexemes.proofs.Lists.{allBelow, below}
+use Rattle.classes.specs.Classes.{OTHER, SLASH, SPACE, markChars, placeFrom, classOf}
+use Rattle.classes.proofs.Classes.{class-low}
 use Rattle.walks.specs.Openings.{opensLine, opensBlock}
 use Rattle.walks.specs.Errors.{unclosed}
 use Rattle.walks.specs.declared.Closing.{Closing}
@@ -35,8 +36,7 @@ use Rattle.skipping.proofs.Skips as skips
 use Rattle.print_places.specs.Places.{lexedFrom, noErrors, rightFrom}
 use Rattle.print_places.proofs.Tokens.{wrong-some, none-still, none-right}
 use Rattle.print_places.proofs.Elements.{within-placed, still-placed, right-placed}
-use Rattle.print_skips.specs.declared.Gap.{Gap}
-use Rattle.print_skips.specs.Gaps.{isBlank, Passed, PastBy, Skipped}
+use Rattle.print_skips.specs.Gaps.{Passed, PastBy, Skipped}
 
 -- ── One after another ──
 
@@ -72,42 +72,45 @@ white-passed s from c q r h w =
     subst (Passed s from) (skips.behind-offset s (placed from) q c r)
     (gap-passed s from (skip (placed from) c) (skips.white-gap s (placed from) q c r w h))
 
-blank-bound : (b : ℕ) → isBlank b ≡ true → b ≤ 0x20
-unfolding isBlank
-blank-bound b e =
-    ⊎-elim (λ h. omega (arith, eqb-true b 0x20 h)) (λ h. omega (arith, within-bounds 0x9 0xD b h .1)) (or-either (b is 0x20) (within 0x9 0xD b) e)
+-- The class of white space, by one test at the characters of ASCII.
+space-test : allBelow (λ b. if classOf b is SPACE then isWhite b else true) 128 ≡ true
+unfolding allBelow classOf isWhite isDigit isIdentStart isLetter placeFrom markChars within
+space-test = refl
 
-blank-white : (b : ℕ) → isBlank b ≡ true → isWhite b ≡ true
-unfolding isBlank
-blank-white b e =
-    ⊎-elim (λ h. white-alone b (inl (eqb-true b 0x20 h)))
-    (λ h. let k = within-bounds 0x9 0xD b h in white-controls b (k .0) (k .1))
-    (or-either (b is 0x20) (within 0x9 0xD b) e)
+space-white : (b : ℕ) → classOf b ≡ SPACE → isWhite b ≡ true
+space-white b e =
+    let t = below (λ b. if classOf b is SPACE then isWhite b else true) 128 space-test b (class-low b (omega (arith, e))) in
+    rw e at t
 
-blank-none : (b : ℕ) → isBlank b ≡ false → b ≤ 0x7F → isWhite b ≡ false
-unfolding isBlank
-blank-none b e l =
-    let n = or-neither (b is 0x20) (within 0x9 0xD b) e in
-    white-none b
-    (⊎-elim (eqb-false b 0x20 (n .0)) (⊎-elim (λ x. omega arith) (⊎-elim (λ x. omega arith) (⊎-elim (λ x. omega arith) (⊎-elim (λ x. omega arith)
-    (⊎-elim (λ x. omega arith) (λ x. omega arith)))))))
-    (within-outside 0x9 0xD b (n .1)) (inl (omega arith)) (inl (omega arith))
+white-space : (b : ℕ) → b < 128 → isWhite b ≡ true → classOf b ≡ SPACE
+unfolding classOf
+white-space b l e = rw (lt-leb 128 b l, e)
+
+not-space : (b : ℕ) → b < 128 → (classOf b ≡ SPACE → ⊥) → isWhite b ≡ false
+not-space b l n = go (isWhite b) refl
+  where
+    go : (x : Bool) → isWhite b ≡ x → isWhite b ≡ false
+    go true e = absurd (n (white-space b l e))
+    go false e = e
 
 module _ (s : List ℕ) (at : ℕ) (w : Within s (placed at)) where
   -- One byte of it.
-  pub blank-passed : isBlank (getD s at 0) ≡ true → Passed s at (at + 1)
-  blank-passed e =
+  pub space-passed : classOf (getD s at 0) ≡ SPACE → Passed s at (at + 1)
+  space-passed e =
       let b = getD s at 0 in
-      let l = blank-bound b e in
-      let t = blank-white b e in
+      let l = class-low b (omega (arith, e)) in
+      let t = space-white b e in
       let q = advance (placed at) b in
       let (r, h) = skips.byte-reach s (placed at) w (omega arith) q t refl in
       let n : q .offset ≡ at + 1 = advance-offset (placed at) b ∙ ap (λ (k : ℕ). at + k) (width-one b (omega arith)) in
       subst (Passed s at) n (white-passed s at b q r h t)
 
-  -- None stands at a byte of ASCII that is no blank.
-  pub blank-stops : isBlank (getD s at 0) ≡ false → getD s at 0 ≤ 0x7F → next isWhite (charsAt s at) ≡ false
-  blank-stops e l = skips.byte-none s (placed at) w l (blank-none (getD s at 0) e l)
+  -- None stands at a byte of another class.
+  pub class-stops : (classOf (getD s at 0) ≡ OTHER → ⊥) → (classOf (getD s at 0) ≡ SPACE → ⊥) → next isWhite (charsAt s at) ≡ false
+  class-stops o n =
+      let b = getD s at 0 in
+      let l : b < 128 = class-low b (omega (arith, o)) in
+      skips.byte-none s (placed at) w (omega arith) (not-space b l n)
 
 -- ── Comments ──
 
@@ -130,13 +133,17 @@ module _ (s : List ℕ) (from : ℕ) (c : Closing) (x : PastComment s (placed fr
 -- ── The end ──
 
 -- Nothing that is passed stands there.
-pub skipped-all : (s : List ℕ) (from at : ℕ) → Passed s from at → next isWhite (charsAt s at) ≡ false → opensLine (charsAt s at) ≡ false
-    → opensBlock (charsAt s at) ≡ false → Skipped s from (record { at = at; «open» = false })
-skipped-all s from at x w l b = record { passed = x; stops = stops-here (charsAt s at) w l b }
+pub skipped-all : (s : List ℕ) (from at k : ℕ) → Passed s from at → k ≡ classOf (getD s at 0) → next isWhite (charsAt s at) ≡ false
+    → opensLine (charsAt s at) ≡ false → opensBlock (charsAt s at) ≡ false → Skipped s from (record { at = at; class = k; «open» = false })
+skipped-all s from at k x c w l b = record { passed = x; class-is = c; stops = stops-here (charsAt s at) w l b }
 
 -- No comment begins without a slash.
-pub skipped-other : (s : List ℕ) (from at : ℕ) → Passed s from at → next isWhite (charsAt s at) ≡ false → (getD s at 0 ≡ 47 → ⊥)
-    → Skipped s from (record { at = at; «open» = false })
-skipped-other s from at x w d =
-    let n : next (exactly 47) (charsAt s at) ≡ false = byte-next (exactly 47) (low-is 1 47 (omega arith) (omega arith)) s at ∙ ne-eqb (getD s at 0) 47 d in
-    skipped-all s from at x w (sym (line-no s at (starts-no s at 47 slash (47 ∷ []) n))) (sym (block-no s at (starts-no s at 47 slash (42 ∷ []) n)))
+pub skipped-other : (s : List ℕ) (from at k : ℕ) → Passed s from at → k ≡ classOf (getD s at 0) → next isWhite (charsAt s at) ≡ false
+    → (k ≡ SLASH → ⊥) → Skipped s from (record { at = at; class = k; «open» = false })
+skipped-other s from at k x c w d =
+    let e : getD s at 0 ≡ 47 → ⊥ = λ z. d (c ∙ (ap classOf z ∙ slash-class)) in
+    let n : next (exactly 47) (charsAt s at) ≡ false = byte-next (exactly 47) (low-is 1 47 (omega arith) (omega arith)) s at ∙ ne-eqb (getD s at 0) 47 e in
+    skipped-all s from at k x c w (sym (line-no s at (starts-no s at 47 slash (47 ∷ []) n))) (sym (block-no s at (starts-no s at 47 slash (42 ∷ []) n)))
+  where
+    slash-class : classOf 47 ≡ SLASH
+    slash-class = unfold classOf isWhite isDigit isIdentStart isLetter placeFrom markChars within in refl

@@ -1,24 +1,22 @@
 -- White space and comments passed by their places.
 use mathlib.Core.Path.{_≡_}
-use mathlib.Core.Bool.{Bool, true, false, _||_}
+use mathlib.Core.Bool.{Bool, true, false}
 use mathlib.Core.List.{List}
 use Prim.Native.Nat.{ℕ, _≤_, _<_}
-use Rattle.characters.specs.Choice.{_is_, within}
+use lib.ListN.{getD}
 use Rattle.characters.specs.Space.{isWhite}
 use Rattle.characters.specs.Utf8.{charsAt}
 use Rattle.rules.specs.Scan.{next}
 use Rattle.bridge.specs.Bridge.{placed, Within}
 use Rattle.walks.specs.Openings.{opensLine, opensBlock}
+use Rattle.classes.specs.Classes.{SPACE, classOf}
 use Rattle.skipping.specs.Skips.{isSkipped}
 use Rattle.prints.specs.Writing.{State}
 use Rattle.print_places.specs.Places.{still, rightFrom}
 use Rattle.print_skips.specs.declared.Comment.{Comment}
 use Rattle.print_skips.specs.declared.Comment.the-variants as answer
 use Rattle.print_skips.specs.declared.Gap.{Gap}
-
--- White space of one byte.
-unfoldable pub isBlank : ℕ → Bool
-isBlank b = b is 0x20 || within 0x9 0xD b
+use Rattle.print_skips.specs.declared.Stop.{Stop}
 
 -- From one place to another nothing is printed, and no error is recorded.
 pub record Passed (s : List ℕ) (from to : ℕ) : Type 0 where
@@ -32,10 +30,17 @@ pub record SomeWhite (s : List ℕ) (from to : ℕ) : Type 0 where
   pub passed : Passed s from to
   pub stops : to ≡ from → next isWhite (charsAt s from) ≡ false
 
--- White space from one place to another, behind which there is no more.
-pub record AllWhite (s : List ℕ) (from to : ℕ) : Type 0 where
-  pub passed : Passed s from to
-  pub stops : next isWhite (charsAt s to) ≡ false
+-- White space of one byte each, up to a byte that is none, of the class that is told.
+pub record BlanksTo (s : List ℕ) (from : ℕ) (r : Stop) : Type 0 where
+  pub passed : Passed s from (r .at)
+  pub class-is : r .class ≡ classOf (getD s (r .at) 0)
+  pub stops : r .class ≡ SPACE → ⊥
+
+-- White space, behind which there is no more, and the class of the byte there.
+pub record WhiteTo (s : List ℕ) (from : ℕ) (r : Stop) : Type 0 where
+  pub passed : Passed s from (r .at)
+  pub class-is : r .class ≡ classOf (getD s (r .at) 0)
+  pub stops : next isWhite (charsAt s (r .at)) ≡ false
 
 -- A comment from one place to another; or one that is not closed, which is an error.
 abbrev pub PastBy : Bool → List ℕ → ℕ → ℕ → Type 0
@@ -50,6 +55,7 @@ CommentAt s at answer.Nothing = (opensLine (charsAt s at) ≡ false) × (opensBl
 -- All white space and comments from a place on were passed; or the last comment is not closed, which is an error.
 pub record Skipped (s : List ℕ) (from : ℕ) (g : Gap) : Type 0 where
   pub passed : Passed s from (g .at)
+  pub class-is : g .class ≡ classOf (getD s (g .at) 0)
   pub stops : isSkipped (charsAt s (g .at)) ≡ false
 
 abbrev pub SkippedBy : Bool → List ℕ → ℕ → Gap → Type 0

@@ -2,15 +2,23 @@
 ghost use mathlib.Core.Path.{_≡_};
 ghost use Rattle.bridge.specs.Bridge.{placed, Within};
 ghost use Rattle.print_places.specs.Places as places;
-ghost use Rattle.print_skips.specs.Gaps.{isBlank, SomeWhite, AllWhite, CommentAt, SkippedAt};
+ghost use Rattle.classes.specs.Classes.{classTable};
+ghost use Rattle.print_skips.specs.Gaps.{SomeWhite, BlanksTo, WhiteTo, CommentAt, SkippedAt};
 use bridge::Ahead;
 use characters::space;
-use characters::utf8;
+use classes::ClassTable;
 use walks::walk;
 
-// The place behind what was passed, and whether the text ran out in it.
+// Where white space ends: the place, and the class of the byte there.
+pub struct Stop {
+    pub at: usize,
+    pub class: u8,
+}
+
+// The place behind what was passed, the class of the byte there, and whether the text ran out in it.
 pub struct Gap {
     pub at: usize,
+    pub class: u8,
     pub open: bool,
 }
 
@@ -34,36 +42,38 @@ fn past_wide(text: &[u8], from: usize) -> usize
     from
 }
 
-// Whether a byte is white space. The blank is asked for first: most are such.
-fn is_blank(b: u8) -> bool
-    ensures { λ r. ⌜ r ≡ isBlank b ⌝ }
+// Past white space of one byte.
+fn past_blanks(classes: &ClassTable, text: &[u8], from: usize) -> Stop
+    requires { ⌜ now classes ≡ classTable ⌝ }
+    requires { ⌜ Within (now text) (placed from) ⌝ }
+    ensures { λ r. ⌜ BlanksTo (now (text .entry)) from r ⌝ }
 {
-    if b == b' ' {
-        return true;
+    let mut at = from;
+    let mut class = classes::class_at(classes, text, at);
+    while class == classes::SPACE {
+        at += 1;
+        class = classes::class_at(classes, text, at);
     }
-    (b'\t' <= b) & (b <= b'\r')
+    Stop { at, class }
 }
 
 // Past white space.
-fn past_white(text: &[u8], from: usize) -> usize
+fn past_white(classes: &ClassTable, text: &[u8], from: usize) -> Stop
+    requires { ⌜ now classes ≡ classTable ⌝ }
     requires { ⌜ Within (now text) (placed from) ⌝ }
-    ensures { λ r. ⌜ AllWhite (now (text .entry)) from r ⌝ }
+    ensures { λ r. ⌜ WhiteTo (now (text .entry)) from r ⌝ }
 {
     let mut at = from;
     loop {
-        let b = utf8::byte_at(text, at);
-        if is_blank(b) {
-            at += 1;
-        } else {
-            if b < 0x80 {
-                return at;
-            }
-            let q = past_wide(text, at);
-            if q == at {
-                return at;
-            }
-            at = q;
+        let b = past_blanks(classes, text, at);
+        if b.class != classes::OTHER {
+            return b;
         }
+        let q = past_wide(text, b.at);
+        if q == b.at {
+            return b;
+        }
+        at = q;
     }
 }
 
@@ -86,22 +96,37 @@ fn comment_at(text: &[u8], at: usize) -> Comment
 }
 
 // Past white space and comments.
-pub fn skip(text: &[u8], from: usize) -> Gap
+pub fn skip(classes: &ClassTable, text: &[u8], from: usize) -> Gap
+    requires { ⌜ now classes ≡ classTable ⌝ }
     requires { ⌜ Within (now text) (placed from) ⌝ }
     ensures { λ r. ⌜ SkippedAt (now (text .entry)) from r ⌝ }
 {
-    let mut at = from;
+    let mut next = from;
     loop {
-        at = past_white(text, at);
-        if utf8::byte_at(text, at) != b'/' {
-            return Gap { at, open: false };
+        let w = past_white(classes, text, next);
+        let at = w.at;
+        let class = w.class;
+        if class != classes::SLASH {
+            return Gap {
+                at,
+                class,
+                open: false,
+            };
         }
         let Comment::Past(end, closed) = comment_at(text, at) else {
-            return Gap { at, open: false };
+            return Gap {
+                at,
+                class,
+                open: false,
+            };
         };
-        at = end;
         if !closed {
-            return Gap { at, open: true };
+            return Gap {
+                at: end,
+                class,
+                open: true,
+            };
         }
+        next = end;
     }
 }

@@ -2,11 +2,13 @@
 ghost use mathlib.Core.Path.{_≡_};
 ghost use mathlib.Core.Bool.{true};
 ghost use Prim.Native.Nat.{_≤_};
+ghost use lib.ListN.{length};
+ghost use lib.Seq.{slice};
 ghost use Rattle.bridge.specs.Bridge.{placed, Within};
 ghost use Rattle.classes.specs.Classes.{classTable};
 ghost use Rattle.marks.specs.Marks.{markTable};
 ghost use Rattle.words.specs.Words.{Begun};
-ghost use Rattle.output.specs.Writing.{PLACES};
+ghost use Rattle.output.specs.Writing.{Put, PLACES};
 ghost use Rattle.print_places.specs.Places as places;
 ghost use Rattle.print_words.specs.Ends.{EndsAt};
 use classes::ClassTable;
@@ -34,6 +36,20 @@ fn word_end(classes: &ClassTable, marks: &MarkTable, text: &[u8], at: usize, cla
     at + w.length
 }
 
+// The bytes text[from..to] of a word. Most marks are one byte.
+fn put_text(text: &[u8], from: usize, to: usize, out: &mut [u8], at: usize) -> usize
+    requires { ⌜ from ≤ to ⌝ }
+    requires { ⌜ to ≤ length (now text) ⌝ }
+    requires { ⌜ to ≤ PLACES ⌝ }
+    requires { ⌜ at ≤ PLACES ⌝ }
+    ensures { λ r. ⌜ Put (now (out .entry)) (now (out .exit)) at (slice from to (now (text .entry))) r ⌝ }
+{
+    if to - from == 1 {
+        return output::put_byte(out, at, text[from]);
+    }
+    output::put_part(text, from, to, out, at)
+}
+
 // The word at a place.
 pub fn put_word(
     classes: &ClassTable,
@@ -54,7 +70,7 @@ pub fn put_word(
     let end = word_end(classes, marks, text, from, class);
     Written {
         at: end,
-        out: output::put_part(text, from, end, out, at),
+        out: put_text(text, from, end, out, at),
         bad: false,
     }
 }

@@ -19,23 +19,20 @@ returns c =
     let w = skip-open (a .text .now) (a .from) _ (k .skip .ensures) (c .before .if1 .taken) in
     wrong-turn (a .text .now) (a .from) _ (a .due) _ (a .at) _ (c .last .ensures) w
 
-class-at-requires : tie.Need-class-at-requires
-class-at-requires c κs = search needs
-
 end-at-requires : tie.Need-end-at-requires
 end-at-requires c κs =
     let y = c .before in
-    let k = y .before .before in
+    let k = y .before in
     let a = k .before .before .before .args in
-    let w = skip-closed (a .text .now) (a .from) _ (k .skip .ensures) (y .before .if1 .left) in
-    (w .passed .within, record { class-is = sym (y .class-at .ensures) ∙ c .if2 .taken; kept = w .stops })
+    let w = skip-closed (a .text .now) (a .from) _ (k .skip .ensures) (y .if1 .left) in
+    (w .passed .within, record { class-is = sym (w .class-is) ∙ c .if2 .taken; kept = w .stops })
 
 returns-2 : tie.Need-returns-2
 returns-2 c =
     let y = c .before .before in
-    let k = y .before .before in
+    let k = y .before in
     let a = k .before .before .before .args in
-    let w = skip-closed (a .text .now) (a .from) _ (k .skip .ensures) (y .before .if1 .left) in
+    let w = skip-closed (a .text .now) (a .from) _ (k .skip .ensures) (y .if1 .left) in
     last-turn (a .text .now) (a .from) _ (w .passed) (a .due) _ (a .at) _ (c .end-at .ensures)
 
 put-space-requires : tie.Need-put-space-requires
@@ -46,12 +43,12 @@ put-element-requires c κs =
     let p = c .before .before .before in
     let z = p .before .before in
     let y = z .before in
-    let k = y .before .before in
+    let k = y .before in
     let i = k .before .before .before in
     let a = i .args in
-    let w = skip-closed (a .text .now) (a .from) _ (k .skip .ensures) (y .before .if1 .left) in
+    let w = skip-closed (a .text .now) (a .from) _ (k .skip .ensures) (y .if1 .left) in
     let h = i .pre .1 .1 .1 in
-    (i .pre .0, (i .pre .1 .0, (w .passed .within, (record { class-is = y .class-at .ensures; some = z .if2 .left; kept = w .stops }, omega (arith, p .put-space .ensures .place, due-length (a .due), h)))))
+    (i .pre .0, (i .pre .1 .0, (w .passed .within, (record { class-is = w .class-is; some = z .if2 .left; kept = w .stops }, omega (arith, p .put-space .ensures .place, due-length (a .due), h)))))
 
 turn-of-requires : tie.Need-turn-of-requires
 turn-of-requires c κs = search needs
@@ -64,10 +61,10 @@ returns-3 c =
     let t = c .before .before .before in
     let p = t .before .before .before .before in
     let y = p .before .before .before in
-    let k = y .before .before in
+    let k = y .before in
     let a = k .before .before .before .args in
     let s = a .text .now in
-    let w = skip-closed s (a .from) _ (k .skip .ensures) (y .before .if1 .left) in
+    let w = skip-closed s (a .from) _ (k .skip .ensures) (y .if1 .left) in
     turned-as s (a .from) (a .due) _ _ (a .at) _ _ (c .turn-of .ensures)
     (element-turn s (a .from) _ (w .passed) (a .due) _ _ _ (a .at) _ (p .put-space .ensures) (t .put-element .result) (t .put-element .ensures))
 
@@ -78,7 +75,6 @@ next-spec =
     skip-requires
     last-requires
     returns
-    class-at-requires
     end-at-requires
     returns-2
     put-space-requires

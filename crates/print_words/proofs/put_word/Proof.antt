@@ -8,8 +8,8 @@ use Rattle.print_words.proofs.put_word.Tie as tie
 word-end-requires : tie.Need-word-end-requires
 word-end-requires c κs = search needs
 
-put-part-requires : tie.Need-put-part-requires
-put-part-requires c κs = search needs
+put-text-requires : tie.Need-put-text-requires
+put-text-requires c κs = search needs
 
 same-length : tie.Need-same-length
 same-length c = search needs
@@ -19,8 +19,8 @@ returns c =
     let start = c .before .before .before .before .before .before .before in
     let a = start .args in
     let x = c .before .before .before .before .word-end .ensures in
-    let put = c .before .before .put-part .ensures in
+    let put = c .before .before .put-text .ensures in
     ends-emits (a .text .now) (a .from) (a .class) _ (start .pre .1 .1 .1 .0) x (start .pre .1 .1 .0) _ _ (a .at) _ refl put
 
 pub put-word-spec : {M : Type 1} → statement M
-put-word-spec = tie.close (tie.spec word-end-requires put-part-requires same-length returns)
+put-word-spec = tie.close (tie.spec word-end-requires put-text-requires same-length returns)
