@@ -1,6 +1,6 @@
 -- Laws of the answer of printing: by the questions one after another. Assumes nothing.
 use mathlib.Core.Path.{_≡_, refl, sym, _∙_, ap, subst}
-use mathlib.Core.Bool.{true, false}
+use mathlib.Core.Bool.{Bool, true, false}
 use mathlib.Core.List.{List, [], _∷_, _++_, append-nil}
 use Prim.Native.Nat.{ℕ, _≤_, _<_}
 use native.Mathlib.Nat.{zero-add}
@@ -18,7 +18,7 @@ use Rattle.prints.specs.Print.{printBytes}
 use Rattle.first_error.specs.First.{firstStart}
 use Rattle.print_loop.specs.declared.Walked.{Walked}
 use Rattle.print_loop.proofs.Outcomes.{walked-bad, walked-right, walked-print}
-use Rattle.printing.specs.Passes.{WalkedFront}
+use Rattle.printing.specs.Passes.{WalkedFront, refusedBy}
 use Rattle.printing.specs.declared.Answer.the-variants.{Done, Refused}
 use Rattle.printing.specs.Printing.{RefusedMistake, RefusedPrint, askMistake, askPrint, _then_, printAnswer, bufferAfter, Printed}
 
@@ -45,6 +45,26 @@ print-room needed size h = rw (le-leb needed size h)
 -- A print that was written from the front on: how many bytes it has.
 pub put-size : (a b bytes : List ℕ) (n : ℕ) → Put a b 0 bytes n → n ≡ length bytes
 put-size a b bytes n p = p .place ∙ zero-add (length bytes)
+
+-- ── Which of them is answered with no ──
+
+pub by-mistake : (bad short : Bool) → refusedBy bad short ≡ RefusedMistake → bad ≡ true
+unfolding refusedBy
+by-mistake true short e = refl
+by-mistake false true e = absurd (omega (arith, e))
+by-mistake false false e = absurd (omega (arith, e))
+
+pub by-print : (bad short : Bool) → refusedBy bad short ≡ RefusedPrint → (bad ≡ false) × (short ≡ true)
+unfolding refusedBy
+by-print true short e = absurd (omega (arith, e))
+by-print false true e = (refl, refl)
+by-print false false e = absurd (omega (arith, e))
+
+pub by-none : (bad short : Bool) → (refusedBy bad short ≡ RefusedMistake → ⊥) → (refusedBy bad short ≡ RefusedPrint → ⊥) → (bad ≡ false) × (short ≡ false)
+unfolding refusedBy
+by-none true short m p = absurd (m refl)
+by-none false true m p = absurd (p refl)
+by-none false false m p = (refl, refl)
 
 -- ── The two passes ──
 
@@ -77,11 +97,11 @@ module _ (s out : List ℕ) where
 
   module _ (out₁ : List ℕ) (w : Walked) (y : askText s ≡ Yes) (first : WalkedFront s 0 out out₁ w) where
     -- 11.
-    pub print-mistake : (f : ℕ) → w .bad ≡ true → f ≡ firstStart (scriptErrors s) → Printed s out (Refused RefusedMistake f) out₁
+    pub print-mistake : (n f : ℕ) → n ≡ RefusedMistake → w .bad ≡ true → f ≡ firstStart (scriptErrors s) → Printed s out (Refused n f) out₁
     unfolding printAnswer _then_ bufferAfter
-    print-mistake f b e =
+    print-mistake n f m b e =
         let bad = walked-bad s _ (w .bytes) (first .front) (w .bad) (first .walked) b in
-        record { answer = rw (y, mistake-no (scriptErrors s) bad, e); out-after = front-none s out out₁ w first }
+        record { answer = rw (y, mistake-no (scriptErrors s) bad, m, e); out-after = front-none s out out₁ w first }
 
     module _ (b : w .bad ≡ false) where
       right : scriptErrors s ≡ []
@@ -91,11 +111,11 @@ module _ (s out : List ℕ) where
       size = put-size _ _ (printBytes s) (w .bytes) (walked-right s _ (w .bytes) (first .front) (w .bad) (first .walked) b .1)
 
       -- 12.
-      pub print-short : length out < w .bytes → Printed s out (Refused RefusedPrint (w .bytes)) out₁
+      pub print-short : (n : ℕ) → n ≡ RefusedPrint → length out < w .bytes → Printed s out (Refused n (w .bytes)) out₁
       unfolding printAnswer _then_ bufferAfter
-      print-short h =
+      print-short n m h =
           record {
-            answer = rw (y, mistake-yes (scriptErrors s) right, ← size, print-no-room (w .bytes) (length out) h);
+            answer = rw (y, mistake-yes (scriptErrors s) right, ← size, print-no-room (w .bytes) (length out) h, m);
             out-after = front-none s out out₁ w first;
           }
 

@@ -1,3 +1,3 @@
-pub mod Passes
 pub mod Printing
+pub mod Passes
 pub mod Calls

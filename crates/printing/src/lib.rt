@@ -4,7 +4,7 @@ ghost use mathlib.Core.Bool.{true};
 ghost use Prim.Native.Nat.{_≤_};
 ghost use lib.ListN.{length};
 ghost use Rattle.rules.specs.Script.{accepted};
-ghost use Rattle.printing.specs.Passes.{WalkedFront};
+ghost use Rattle.printing.specs.Passes.{WalkedFront, refusedBy};
 ghost use Rattle.printing.specs.Printing.{Printed};
 use first_error::first_start;
 use print_loop::Walked;
@@ -32,6 +32,19 @@ fn write_front(script: &[u8], out: &mut [u8], n: usize) -> Walked
     write(script, &mut out[..n])
 }
 
+// The number of the question that is answered with no: 11, then 12; 0 where both are answered with yes.
+fn refused_by(bad: bool, short: bool) -> u64
+    ensures { λ r. ⌜ r ≡ refusedBy bad short ⌝ }
+{
+    if bad {
+        return REFUSED_MISTAKE;
+    }
+    if short {
+        return REFUSED_PRINT;
+    }
+    0
+}
+
 // Prints a script into a lent buffer: after the questions 1 and 2 whether it has an error, and whether the buffer holds its print. The first
 // pass writes no byte: it finds an error, and counts the bytes.
 pub fn print(script: &[u8], out: &mut [u8]) -> Answer
@@ -42,12 +55,12 @@ pub fn print(script: &[u8], out: &mut [u8]) -> Answer
     }
     let size = out.len();
     let w = write_front(script, out, 0);
-    let short = size < w.bytes;
-    if w.bad {
-        return Answer::Refused(REFUSED_MISTAKE, first_start(script) as u64);
+    let number = refused_by(w.bad, size < w.bytes);
+    if number == REFUSED_MISTAKE {
+        return Answer::Refused(number, first_start(script) as u64);
     }
-    if short {
-        return Answer::Refused(REFUSED_PRINT, w.bytes as u64);
+    if number == REFUSED_PRINT {
+        return Answer::Refused(number, w.bytes as u64);
     }
     write_front(script, out, w.bytes);
     Answer::Done(w.bytes)
