@@ -1,4 +1,6 @@
 // The calls of a C-style host, on numbers and byte slices. Each is a function of a crate below, exported with its contract.
+#![tactic(auto)]
+
 ghost use Rattle.std.specs.Prelude.{◌≡◌, length};
 ghost use Rattle.characters.specs.Utf8.{first_bad};
 ghost use Rattle.characters.specs.Space.{is_white};

@@ -1,4 +1,6 @@
 // The bridge between the code and the rules: places of the code are bytes, the rules speak of characters.
+#![tactic(auto)]
+
 ghost use Rattle.std.specs.Prelude.{◌≡◌};
 ghost use Rattle.characters.specs.Utf8.{width, chars_at};
 ghost use Rattle.rules.specs.Scan.{next};
@@ -14,7 +16,7 @@ const LINE_FEED: u32 = b'\n' as u32;
 const BEHIND_LINE_FEED: u8 = b'\n' + 1;
 
 // What stands at a position: a character, and the position after it; or nothing.
-#[derive(Drop)]
+#[derive(Clone, Copy)]
 pub enum Ahead {
     Char(u32, Position),
     Nothing,

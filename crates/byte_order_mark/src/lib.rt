@@ -1,4 +1,6 @@
 // The byte-order mark.
+#![tactic(auto)]
+
 ghost use Rattle.std.specs.Prelude.{◌≡◌};
 ghost use Rattle.byte_order_mark.specs.Mark.{has_mark, mark_length, after_mark};
 ghost use Rattle.byte_order_mark.specs.Slices.{bytes_behind};

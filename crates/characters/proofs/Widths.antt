@@ -6,7 +6,7 @@ use mathlib.Core.List.{List, [], ◌∷◌}
 use Prim.Native.Nat.{ℕ, ◌+◌, ◌/◌, ◌%◌, ◌≤◌, ◌<◌}
 use lib.Dec.{leb}
 use lib.ListN.{length}
-use borrow.Author.Tests.{le-leb, lt-leb, leb-true, not_true}
+use borrow.Author.Tests.{le-leb, lt-leb, leb-true, not-true}
 use native.Mathlib.Omega.{arith}
 use Rattle.characters.specs.Choice.{within}
 use Rattle.characters.specs.Utf8.{is_scalar, width, encode_char}
@@ -34,7 +34,7 @@ pub scalar_bounds : (c : ℕ) → is_scalar c ≡ true → (c ≤ 0x10FFFF) × (
 unfolding is_scalar
 scalar_bounds c e =
     let p = and_both (leb c 0x10FFFF) (not (within 0xD800 0xDFFF c)) e in
-    (leb-true c 0x10FFFF p.0, within_outside 0xD800 0xDFFF c (not_true (within 0xD800 0xDFFF c) p.1))
+    (leb-true c 0x10FFFF p.0, within_outside 0xD800 0xDFFF c (not-true (within 0xD800 0xDFFF c) p.1))
 
 -- ── Widths ──
 

@@ -1,8 +1,10 @@
 // Characters of a text: UTF-8 by RFC 3629, white space.
+#![tactic(auto)]
+
 pub mod utf8; // utf8.rt: a byte at a place, one character of a text that is UTF-8
 pub mod space; // space.rt: white space
 
-#[derive(Drop)]
+#[derive(Clone, Copy)]
 pub enum Decoded {
     // The code point and the number of bytes.
     Code(u32, usize),
@@ -10,7 +12,7 @@ pub enum Decoded {
     End,
 }
 
-#[derive(Drop)]
+#[derive(Clone, Copy)]
 pub enum Checked {
     Valid,
     // The first byte of the first bad sequence.

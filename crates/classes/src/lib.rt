@@ -1,4 +1,6 @@
 // The classes of the ASCII characters, by what begins with one.
+#![tactic(auto)]
+
 ghost use Rattle.std.specs.Prelude.{◌≡◌, get_or};
 ghost use Rattle.classes.specs.Classes.{class_table, class_of};
 

@@ -6,7 +6,7 @@ use Prim.Native.Nat.{ℕ, suc, ◌+◌, ◌≤◌}
 use native.Mathlib.Omega.{arith}
 use lib.ListN.{length, take, drop, length-append}
 use lib.Seq.{drop-append_seam, take-append_seam}
-use borrow.Author.Tests.{not_false}
+use borrow.Author.Tests.{not-false}
 use Rattle.characters.specs.Choice.{if◌then◌else◌, ◌is◌}
 use Rattle.characters.proofs.Choice.{if_all, if_both}
 use Rattle.spans.specs.declared.Position.{Position}
@@ -38,7 +38,7 @@ unfolding stands
 stops_dollar c cs h a b = go (c is ch "$") refl
   where
     go : (d : Bool) → (c is ch "$") ≡ d → (c ≡ ch "$") × (next is_interp_start cs ≡ true)
-    go true e = (is_eq c (ch "$") e, not_false (next is_interp_start cs) (rw (is_not c LF a, is_not c (ch "\"") b, e) at h))
+    go true e = (is_eq c (ch "$") e, not-false (next is_interp_start cs) (rw (is_not c LF a, is_not c (ch "\"") b, e) at h))
     go false e = absurd (true≢false (rw (is_not c LF a, is_not c (ch "\"") b, e) at h))
 
 -- ── Interpolations ──

@@ -8,7 +8,7 @@ use native.Mathlib.Omega.{arith}
 use lib.ListN.{length, take, drop, length-append, take-append-drop}
 use lib.Seq.{drop-append_seam, take-append_seam, length-take-le}
 use lib.Dec.{leb}
-use borrow.Author.Tests.{leb-true, not_true}
+use borrow.Author.Tests.{leb-true, not-true}
 use Rattle.characters.specs.Choice.{if◌then◌else◌, ◌is◌}
 use Rattle.characters.specs.Utf8.{width, bytes}
 use Rattle.characters.proofs.Texts.{bytes_append}
@@ -79,7 +79,7 @@ plain_turn buf x c cs n h = go (c is LF) (c is ch "\"") (c is ch "$") refl refl 
     go false true d p q r h = absurd (false≢true (rw (p, q) at h))
     go false false true p q r h =
         let o : not (next is_interp_start cs) ≡ true = rw (p, q, r) at h in
-        rw (p, q, n, r, not_true (next is_interp_start cs) o) (rw (is_eq c (ch "$") r))
+        rw (p, q, n, r, not-true (next is_interp_start cs) o) (rw (is_eq c (ch "$") r))
     go false false false p q r h = rw (p, q, n, r)
 
 -- What a unit does: it stands in front of `rest`, and what it makes is held back.

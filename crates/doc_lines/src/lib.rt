@@ -1,4 +1,6 @@
 // The lines of documentation comments (lexer.rs, lines 931 to 983), as places in the part of the script between a comment's marks.
+#![tactic(auto)]
+
 ghost use Rattle.std.specs.Prelude.{◌≡◌, true, not, ◌≤◌, ltb, length};
 ghost use Rattle.characters.specs.Choice.{if◌then◌else◌};
 ghost use Rattle.characters.specs.Space.{is_white};
@@ -13,14 +15,14 @@ const LINE_FEED: u32 = b'\n' as u32;
 const STAR: u32 = b'*' as u32;
 
 // What stands at a place: a character, and the place after it; or nothing.
-#[derive(Drop)]
+#[derive(Clone, Copy)]
 pub enum Next {
     Char(u32, usize),
     Nothing,
 }
 
 // A line is part[from..to]. The next one begins at `next`, unless it is the last.
-#[derive(Drop)]
+#[derive(Clone, Copy)]
 pub struct Line {
     pub from: usize,
     pub to: usize,

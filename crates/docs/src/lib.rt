@@ -1,5 +1,7 @@
 // The texts of documentation comments (lexer.rs, lines 931 to 983). Each function is handed the part of the script between the
 // comment's marks and writes the comment's text into a lent buffer while it walks.
+#![tactic(auto)]
+
 ghost use Rattle.std.specs.Prelude.{◌≡◌, ◌+◌, ◌≤◌, length, replicate};
 ghost use Rattle.std.proofs.Math.Seq.{slice};
 ghost use Rattle.characters.specs.Choice.{◌is◌};

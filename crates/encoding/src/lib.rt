@@ -1,10 +1,12 @@
 // A character written as UTF-8 into a lent buffer.
+#![tactic(auto)]
+
 ghost use Rattle.std.specs.Prelude.{◌≡◌, [], ◌∷◌, ◌≤◌, ◌+◌, length};
 ghost use Rattle.std.proofs.lemmas.List.Edits.{sets};
 ghost use Rattle.characters.specs.Utf8.{is_scalar, width, encode_char};
 ghost use Rattle.encoding.specs.Encoding.{encoded_at, buffer_after};
 
-#[derive(Drop)]
+#[derive(Clone, Copy)]
 pub enum Encoded {
     // The number of bytes.
     Written(usize),

@@ -1,4 +1,6 @@
 // Escapes: the value of four hexadecimal digits, and the characters that letters behind a backslash stand for.
+#![tactic(auto)]
+
 ghost use Rattle.std.specs.Prelude.{◌≡◌, ◌≤◌, length, get_or};
 ghost use Rattle.characters.specs.Utf8.{chars_at};
 ghost use Rattle.rules.specs.Tables.{ESCAPES, lookup};
@@ -31,7 +33,7 @@ pub const NO_BYTE: u8 = 128;
 const BEYOND_ASCII: u32 = 128;
 
 // A number, or none.
-#[derive(Drop)]
+#[derive(Clone, Copy)]
 pub enum Value {
     Some(u32),
     None,

@@ -1,4 +1,6 @@
 // Where the first error of a script starts.
+#![tactic(auto)]
+
 ghost use Rattle.std.specs.Prelude.{◌≡◌, true};
 ghost use Rattle.rules.specs.Script.{accepted, script_errors};
 ghost use Rattle.first_error.specs.First.{first_start};

@@ -1,4 +1,6 @@
 // What the calls of the host have in common.
+#![tactic(auto)]
+
 ghost use Rattle.std.specs.Prelude.{◌≡◌};
 ghost use Rattle.host_answers.specs.Answers.{truth};
 

@@ -1,4 +1,6 @@
 // The host's calls on scripts: measuring and tokenising.
+#![tactic(auto)]
+
 ghost use Rattle.std.specs.Prelude.{◌≡◌};
 ghost use Rattle.lexer.specs.Tokenize.{of_answer, measure_answer};
 ghost use Rattle.host_answers.specs.Answers.{number_of, slots_after};

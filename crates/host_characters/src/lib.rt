@@ -1,4 +1,6 @@
 // The host's calls on characters.
+#![tactic(auto)]
+
 ghost use Rattle.std.specs.Prelude.{◌≡◌, length};
 ghost use Rattle.characters.specs.Utf8.{first_bad};
 ghost use Rattle.characters.specs.Space.{is_white};

@@ -1,4 +1,6 @@
 // The host's calls that read tokens by their kinds: consume and match. A kind is as wide as the host's numbers.
+#![tactic(auto)]
+
 ghost use Rattle.std.specs.Prelude.{◌≡◌};
 ghost use Rattle.records.specs.Kinds.{is_kind};
 ghost use Rattle.record_reading.specs.Reading.{consume_at, match_at};

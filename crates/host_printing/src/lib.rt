@@ -1,4 +1,6 @@
 // The host's call that prints a script.
+#![tactic(auto)]
+
 ghost use Rattle.std.specs.Prelude.{◌≡◌};
 ghost use Rattle.printing.specs.Printing.{of_answer};
 ghost use Rattle.host_answers.specs.Answers.{number_of, slots_after};

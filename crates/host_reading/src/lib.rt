@@ -1,4 +1,6 @@
 // The host's calls that read records back: the next token, the next error, the text check.
+#![tactic(auto)]
+
 ghost use Rattle.std.specs.Prelude.{◌≡◌};
 ghost use Rattle.record_reading.specs.Reading.{next_at, next_error_at};
 ghost use Rattle.record_texts.specs.Texts.{text_check_at};

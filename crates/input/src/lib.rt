@@ -1,9 +1,11 @@
 // An input read in pieces, as they come. A read that fails is told from the end of the input, which is a read that answers 0.
+#![tactic(auto)]
+
 ghost use Rattle.std.specs.Prelude.{◌≡◌, ◌<◌, length, take};
 ghost use Rattle.input.specs.Input.{piece_of, PieceWithin, InputWithin};
 
 // What one read gave.
-#[derive(Drop)]
+#[derive(Clone, Copy)]
 enum Piece {
     // So many bytes.
     Bytes(usize),
@@ -12,7 +14,7 @@ enum Piece {
 }
 
 // What all reads gave.
-#[derive(Drop)]
+#[derive(Clone, Copy)]
 pub enum Input {
     // So many bytes at the front of the buffer.
     Read(usize),

@@ -1,4 +1,6 @@
 // Interpolations of strings: `$name` and `${..}`.
+#![tactic(auto)]
+
 ghost use Rattle.std.specs.Prelude.{◌≡◌, true, ◌≤◌};
 ghost use Rattle.characters.specs.Utf8.{chars_at};
 ghost use Rattle.rules.specs.Text.{ch};
@@ -16,7 +18,7 @@ use spans::Position;
 use walks::{Closing, error, walk};
 
 // A token, the next cursor, whether the text ran out in the token, and how many bytes of the two buffers are used then.
-#[derive(Drop)]
+#[derive(Clone, Copy)]
 pub struct Given {
     pub token: TokenRecord,
     pub next: Cursor,

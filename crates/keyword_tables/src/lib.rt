@@ -1,4 +1,6 @@
 // The tables of keywords. A name's slot comes from its first, middle and last character and its length; no two keywords share one.
+#![tactic(auto)]
+
 ghost use Rattle.std.specs.Prelude.{◌≡◌};
 ghost use Rattle.keyword_tables.specs.Keywords.{slot_table, keyword_table};
 

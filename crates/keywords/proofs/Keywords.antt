@@ -9,7 +9,7 @@ use lib.ListN.{length, get_or, take}
 use lib.Seq.{slice, length-slice, get_or-drop, get_or-take, ext_get_or}
 use native.Mathlib.Omega.{arith}
 use native.Mathlib.Numerals.{add-one}
-use borrow.Author.Tests.{leb-true, lt-ltb, le-ltb, eqb-true, eq-eqb, ne_eqb, not_true, ltb-true}
+use borrow.Author.Tests.{leb-true, lt-ltb, le-ltb, eqb-true, eq-eqb, ne_eqb, not-true, ltb-true}
 use Rattle.characters.specs.Choice.{◌is◌}
 use Rattle.characters.proofs.Choice.{if_all, and_both, or_either}
 use Rattle.rules.specs.Text.{Text, same_text}
@@ -99,7 +99,7 @@ module _ (row : ℕ) (h : row < 60) where
       let q = and_both a b p.0 in (
         leb-true (length (letters_of row)) 9 q.0,
         eqb-true (lookup_keyword (letters_of row)) (kind_of row) q.1,
-        not_true (kind_of row is DoubleColonT) p.1,
+        not-true (kind_of row is DoubleColonT) p.1,
       )
 
   pub letters_short : length (letters_of row) ≤ 9

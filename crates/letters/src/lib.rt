@@ -1,4 +1,6 @@
 // Character literals, whose texts and errors are written while they are scanned.
+#![tactic(auto)]
+
 ghost use Rattle.std.specs.Prelude.{◌≡◌, true, [], ◌∷◌, ◌≤◌};
 ghost use Rattle.characters.specs.Utf8.{chars_at};
 ghost use Rattle.rules.specs.Text.{ch};
@@ -17,7 +19,7 @@ use string_units::{BACKSLASH, LETTER_U, Made, Mistake, Unit};
 use walks::error;
 
 // What stands behind the opening quote: a character or an escape; or the text ran out, behind the quote or behind a backslash.
-#[derive(Drop)]
+#[derive(Clone, Copy)]
 pub enum Letter {
     Some(Unit),
     RanOut(Position),

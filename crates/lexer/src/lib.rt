@@ -1,4 +1,6 @@
 // Tokenising and measuring a script: questions 1 to 5, and then the records, texts and errors.
+#![tactic(auto)]
+
 ghost use Rattle.std.specs.Prelude.{◌≡◌};
 ghost use Rattle.lexer.specs.Tokenize.{of_answer, measure_answer, Tokenized};
 
@@ -7,7 +9,7 @@ use questions::{Asked, ask_room, ask_text};
 use room::{Used, is_roomy};
 
 // What is used; or the number of the question that was answered with no, and its figure.
-#[derive(Drop)]
+#[derive(Clone, Copy)]
 pub enum Answer {
     Done(Used),
     Refused(u64, u64),

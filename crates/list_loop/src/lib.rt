@@ -1,4 +1,6 @@
 // The list loop: the tokens, texts and errors of a script, one step after another.
+#![tactic(auto)]
+
 ghost use Rattle.std.specs.Prelude.{◌≡◌, true};
 ghost use Rattle.rules.specs.Script.{accepted};
 ghost use Rattle.room.specs.Needed.{needed};

@@ -1,4 +1,6 @@
 // The listing of a script of at most 1,024 bytes: its tokens, its errors, and closed or open.
+#![tactic(auto)]
+
 ghost use Rattle.std.specs.Prelude.{◌≡◌, ◌≤◌, length};
 ghost use Rattle.output.specs.Writing.{Put};
 ghost use Rattle.listing.specs.Listing.{listing, LONGEST};

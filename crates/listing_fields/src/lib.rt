@@ -1,4 +1,6 @@
 // Fields of a line, each after a space.
+#![tactic(auto)]
+
 ghost use Rattle.std.specs.Prelude.{◌≡◌, [], ◌∷◌, ◌/◌, ◌%◌, ◌≤◌, ◌<◌, length};
 ghost use Rattle.output.specs.Writing.{Put, PLACES};
 ghost use Rattle.listing_fields.specs.Numbers.{SIXTEEN, hex_digit, hex_of};

@@ -1,4 +1,6 @@
 // The lines of a listing, each of given values.
+#![tactic(auto)]
+
 ghost use Rattle.output.specs.Writing.{Put};
 ghost use Rattle.record_lists.specs.Lists.{error_of};
 ghost use Rattle.spellings.specs.Spelling.{spelling};

@@ -1,4 +1,6 @@
 // The lines of tokens and errors that are read back from their records.
+#![tactic(auto)]
+
 ghost use Rattle.std.specs.Prelude.{◌≤◌, length};
 ghost use Rattle.output.specs.Writing.{Put};
 ghost use Rattle.listing_fields.specs.Room.{Room};

@@ -8,7 +8,7 @@ use Prim.Native.Nat.{ℕ, suc, ◌+◌, ◌-◌, ◌≤◌, ◌<◌}
 use lib.Dec.{leb}
 use lib.ListN.{length, get_or}
 use native.Mathlib.Omega.{arith}
-use borrow.Author.Tests.{le-leb, lt-leb, leb-true, eqb-true, eq-eqb, not_true}
+use borrow.Author.Tests.{le-leb, lt-leb, leb-true, eqb-true, eq-eqb, not-true}
 use Rattle.characters.specs.Choice.{if◌then◌else◌, ◌is◌, within}
 use Rattle.characters.specs.Space.{is_white}
 use Rattle.characters.specs.Utf8.{chars_at}
@@ -99,11 +99,11 @@ row_marked c r e =
     record {
       low = b.0;
       high = b.1;
-      plain = not_true (r.alone is DoubleColonT) q.1;
+      plain = not-true (r.alone is DoubleColonT) q.1;
       column =
           λ d k f.
           let x = and_both (one_of seconds d) (not (k is r.alone)) (lookup_all cols r.columns p.1 d k f) in
-          (x.0, not_true (k is r.alone) x.1);
+          (x.0, not-true (k is r.alone) x.1);
     }
 
 -- No column for what can't be second.
@@ -331,7 +331,7 @@ module _ (s : List ℕ) (at : ℕ) (r : Row) (e : lookup (get_or s at 0) MARKS �
       plains =
           let p = and_both (not (k is DoubleColonT) && not (t is DoubleColonT)) (not (t is 0)) (lookup_all good_third THIRDS thirds_good k t q) in
           let x = and_both (not (k is DoubleColonT)) (not (t is DoubleColonT)) p.0 in
-          (not_true (k is DoubleColonT) x.0, not_true (t is DoubleColonT) x.1)
+          (not-true (k is DoubleColonT) x.0, not-true (t is DoubleColonT) x.1)
 
       short_word : next (exactly d) (chars_at s (at + 2)) ≡ false → WordAt s at (parse_mark c rest) k 2 2
       unfolding two_marks
@@ -375,7 +375,7 @@ third_none k h = go (lookup k THIRDS) refl h
     go none q h = refl
     go (some t) q h =
         let p = and_both (not (k is DoubleColonT) && not (t is DoubleColonT)) (not (t is 0)) (lookup_all good_third THIRDS thirds_good k t q) in
-        absurd (true≢false (sym (eq-eqb t 0 h) ∙ not_true (t is 0) p.1))
+        absurd (true≢false (sym (eq-eqb t 0 h) ∙ not-true (t is 0) p.1))
 
 third_some : (k : ℕ) → (third_kind k ≡ 0 → ⊥) → lookup k THIRDS ≡ some (third_kind k)
 unfolding third_kind found_or

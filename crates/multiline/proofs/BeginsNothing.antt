@@ -7,7 +7,7 @@ use mathlib.Core.Option.{none}
 use Prim.Native.Nat.{ℕ, ◌+◌, ◌≤◌}
 use lib.ListN.{get_or}
 use native.Mathlib.Omega.{arith}
-use borrow.Author.Tests.{not_true}
+use borrow.Author.Tests.{not-true}
 use Rattle.characters.specs.Choice.{◌is◌, within}
 use Rattle.characters.specs.Space.{is_white}
 use Rattle.characters.specs.Utf8.{decode_at, chars_at}
@@ -42,7 +42,7 @@ mark_none c cs e = rw (lookup_none c MARKS e)
 pub unexpected_segment : (c : Char) (cs : Text) → begins_nothing c ≡ true → segment (c ∷ cs) ≡ unexpected c
 unfolding begins_nothing segment one_of
 unexpected_segment c cs e =
-    let m = or_neither (is_white c || one_of (text "/$\"'") c || is_digit c || is_ident_start c) (one_of (keys MARKS) c) (not_true _ e) in
+    let m = or_neither (is_white c || one_of (text "/$\"'") c || is_digit c || is_ident_start c) (one_of (keys MARKS) c) (not-true _ e) in
     let i = or_neither (is_white c || one_of (text "/$\"'") c || is_digit c) (is_ident_start c) m.0 in
     let d = or_neither (is_white c || one_of (text "/$\"'") c) (is_digit c) i.0 in
     let w = or_neither (is_white c) (one_of (text "/$\"'") c) d.0 in

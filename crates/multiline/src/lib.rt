@@ -1,4 +1,6 @@
 // Tokens that go over lines: raw strings, `${..}` outside of strings, doc comments; and characters that begin nothing.
+#![tactic(auto)]
+
 ghost use Rattle.std.specs.Prelude.{◌≡◌, true, ◌≤◌};
 ghost use Rattle.characters.specs.Utf8.{chars_at};
 ghost use Rattle.rules.specs.Scan.{next, starts_with};
@@ -18,7 +20,7 @@ const BRACES_BYTES: usize = 6;
 
 // A token whose text was written: the position behind it, the places after its text and its errors, and whether the text ran out
 // in it.
-#[derive(Drop)]
+#[derive(Clone, Copy)]
 pub struct Made {
     pub at: Position,
     pub texts: usize,
@@ -27,7 +29,7 @@ pub struct Made {
 }
 
 // The same of a token that has no error.
-#[derive(Drop)]
+#[derive(Clone, Copy)]
 pub struct Filled {
     pub at: Position,
     pub texts: usize,
@@ -35,14 +37,14 @@ pub struct Filled {
 }
 
 // A token whose text is a part of the script: the position behind it, and the place after its errors.
-#[derive(Drop)]
+#[derive(Clone, Copy)]
 pub struct Recorded {
     pub at: Position,
     pub errors: usize,
 }
 
 // A doc comment of one line: its text's part of the script, and the position behind it.
-#[derive(Drop)]
+#[derive(Clone, Copy)]
 pub struct DocLine {
     pub from: usize,
     pub to: usize,
@@ -51,7 +53,7 @@ pub struct DocLine {
 
 // A block doc comment: the part of the script between its marks, the position behind it, the place after its errors, and whether
 // the text ran out in it.
-#[derive(Drop)]
+#[derive(Clone, Copy)]
 pub struct DocBlock {
     pub from: usize,
     pub to: usize,

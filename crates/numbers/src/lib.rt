@@ -1,4 +1,6 @@
 // Numbers: where each part of one ends.
+#![tactic(auto)]
+
 ghost use Rattle.std.specs.Prelude.{◌≡◌, true, [], ◌∷◌, ◌≤◌, ◌-◌, length};
 ghost use Rattle.characters.specs.Utf8.{chars_at};
 ghost use Rattle.rules.specs.Text.{one_of, is_digit};
@@ -13,7 +15,7 @@ use lexemes::Word;
 use rules::kinds;
 
 // The end of a number, and whether it is a float.
-#[derive(Drop)]
+#[derive(Clone, Copy)]
 pub struct Numeral {
     pub end: usize,
     pub float: bool,

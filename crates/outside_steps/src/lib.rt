@@ -1,4 +1,6 @@
 // Steps outside of strings: past white space and comments, and then the choice of what begins there (lexer.rs, lines 184 to 261).
+#![tactic(auto)]
+
 ghost use Rattle.bridge.specs.Bridge.{Within as InText};
 ghost use Rattle.words.specs.Words.{Lent};
 ghost use Rattle.steps.specs.Step.{AfterString, AfterComment, Roomy};

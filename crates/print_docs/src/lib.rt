@@ -1,5 +1,7 @@
 // Doc comments as they are printed, each with the line feed behind it. Each function is handed the part of the script between the
 // comment's marks.
+#![tactic(auto)]
+
 ghost use Rattle.std.specs.Prelude.{◌≡◌, true, false, [], ◌∷◌, ◌++◌, ◌≤◌, ◌+◌, ◌/◌, length};
 ghost use Rattle.std.proofs.Math.Seq.{slice};
 ghost use Rattle.characters.specs.Utf8.{chars_of, encode};

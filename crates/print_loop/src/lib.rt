@@ -1,4 +1,6 @@
 // The print of a script: its elements one after another.
+#![tactic(auto)]
+
 ghost use Rattle.std.specs.Prelude.{◌≡◌, true, ◌≤◌};
 ghost use Rattle.rules.specs.Script.{accepted};
 ghost use Rattle.bridge.specs.Bridge.{placed, Within};
@@ -16,7 +18,7 @@ use print_steps::Printed;
 
 // A turn of the loop: the place behind what was printed, the place behind its bytes, whether a space is due behind it; `ended` says that
 // nothing is left, `bad` that an error was recorded.
-#[derive(Drop)]
+#[derive(Clone, Copy)]
 pub struct Turn {
     pub at: usize,
     pub out: usize,
@@ -26,7 +28,7 @@ pub struct Turn {
 }
 
 // The bytes of a print, and whether an error was recorded.
-#[derive(Drop)]
+#[derive(Clone, Copy)]
 pub struct Walked {
     pub bytes: usize,
     pub bad: bool,

@@ -1,4 +1,6 @@
 // White space and comments passed by their places alone: a print needs no lines and columns.
+#![tactic(auto)]
+
 ghost use Rattle.std.specs.Prelude.{◌≡◌};
 ghost use Rattle.bridge.specs.Bridge.{placed, Within};
 ghost use Rattle.print_places.specs.Places as places;
@@ -11,14 +13,14 @@ use classes::ClassTable;
 use walks::walk;
 
 // Where white space ends: the place, and the class of the byte there.
-#[derive(Drop)]
+#[derive(Clone, Copy)]
 pub struct Stop {
     pub at: usize,
     pub class: u8,
 }
 
 // The place behind what was passed, the class of the byte there, and whether the text ran out in it.
-#[derive(Drop)]
+#[derive(Clone, Copy)]
 pub struct Gap {
     pub at: usize,
     pub class: u8,
@@ -26,7 +28,7 @@ pub struct Gap {
 }
 
 // A comment that is passed: the place behind it, and whether it is closed; or none.
-#[derive(Drop)]
+#[derive(Clone, Copy)]
 enum Comment {
     Past(usize, bool),
     Nothing,

@@ -1,4 +1,6 @@
 // One element of a script, printed: the choice of what stands at a place.
+#![tactic(auto)]
+
 ghost use Rattle.std.specs.Prelude.{◌≡◌, true, false, ◌≤◌, ◌/◌, get_or};
 ghost use Rattle.characters.specs.Utf8.{chars_at};
 ghost use Rattle.rules.specs.Text.{ch};
@@ -18,7 +20,7 @@ use print_places::Written;
 
 // What was printed: the place behind it, the place behind its bytes, whether a space is due behind it, and whether an error was
 // recorded in it.
-#[derive(Drop)]
+#[derive(Clone, Copy)]
 pub struct Printed {
     pub at: usize,
     pub out: usize,

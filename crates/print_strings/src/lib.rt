@@ -1,4 +1,6 @@
 // Strings as they are printed: all their pieces in one pair of quotes.
+#![tactic(auto)]
+
 ghost use Rattle.std.specs.Prelude.{◌≡◌, true, false, ◌≤◌, ◌<◌, ◌/◌, length};
 ghost use Rattle.std.proofs.Math.Seq.{slice};
 ghost use Rattle.characters.specs.Utf8.{chars_at};
@@ -22,7 +24,7 @@ const PARTING_BYTES: usize = 6;
 
 // What was written inside a string: the place behind it, the place behind its bytes, whether a `$name` stands right before what follows,
 // and whether it has an error.
-#[derive(Drop)]
+#[derive(Clone, Copy)]
 pub struct Row {
     pub at: usize,
     pub out: usize,

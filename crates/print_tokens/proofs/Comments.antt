@@ -4,7 +4,7 @@ use mathlib.Core.Bool.{true, false, not, true≢false}
 use mathlib.Core.List.{List, [], ◌∷◌, ◌++◌}
 use Prim.Native.Nat.{ℕ, ◌+◌, ◌*◌, ◌-◌, ◌≤◌}
 use native.Mathlib.Omega.{arith}
-use borrow.Author.Tests.{not_true, eq-eqb}
+use borrow.Author.Tests.{not-true, eq-eqb}
 use lib.ListN.{length, take, drop, length-take, length-drop}
 use lib.Seq.{slice, take-add, drop_at, length-take-le}
 use Rattle.characters.specs.Choice.{◌is◌}
@@ -104,7 +104,7 @@ unfolding run encode
 line_feedless [] = unfold one_of in refl
 line_feedless (c ∷ cs) =
     if_all (λ (x : Part). one_of (encode x.taken) LF ≡ false) (not (c is LF))
-    (λ e. feed_append (encode_char c) (encode (run not_lf cs).taken) ∙ rw (none_char c (not_true (c is LF) e), line_feedless cs))
+    (λ e. feed_append (encode_char c) (encode (run not_lf cs).taken) ∙ rw (none_char c (not-true (c is LF) e), line_feedless cs))
     (λ _. (unfold one_of in refl))
 
 -- ── The two sorts ──

@@ -1,4 +1,6 @@
 // Tokens that are printed otherwise than they stand: raw strings, character literals, `${..}` outside of strings, doc comments.
+#![tactic(auto)]
+
 ghost use Rattle.std.specs.Prelude.{◌≡◌, true, false, ◌≤◌, ◌/◌, length};
 ghost use Rattle.std.proofs.Math.Seq.{slice};
 ghost use Rattle.characters.specs.Utf8.{chars_at};

@@ -5,7 +5,7 @@ use mathlib.Core.List.{List, [], ◌∷◌, map}
 use Prim.Native.Nat.{ℕ, ◌+◌}
 use lib.ListN.{get_or}
 use lib.Seq.{slice}
-use borrow.Author.Tests.{eqb-true, eqb-false, not_true}
+use borrow.Author.Tests.{eqb-true, eqb-false, not-true}
 use Rattle.characters.specs.Choice.{◌is◌}
 use Rattle.characters.specs.Utf8.{chars_at}
 use Rattle.rules.specs.Text.{Char, Text, text, one_of}
@@ -54,7 +54,7 @@ module _ (s : List ℕ) (at k : ℕ) (w : Begun s at k) where
 
   no_brace : (k is DOLLAR) ≡ true → starts_with (text "{") (chars_at s (at + 1)) ≡ false
   unfolding begins_word
-  no_brace e = not_true _ (rw e at w.begins)
+  no_brace e = not-true _ (rw e at w.begins)
 
   begun_own : (segment (chars_at s at)).faults ≡ [] → Own (segment (chars_at s at))
   begun_own f = letter (k is LETTER) refl

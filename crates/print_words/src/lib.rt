@@ -1,4 +1,6 @@
 // Words as they are printed: as they stand.
+#![tactic(auto)]
+
 ghost use Rattle.std.specs.Prelude.{◌≡◌, true, ◌≤◌, length};
 ghost use Rattle.std.proofs.Math.Seq.{slice};
 ghost use Rattle.bridge.specs.Bridge.{placed, Within};

@@ -1,4 +1,6 @@
 // The office print of a script.
+#![tactic(auto)]
+
 ghost use Rattle.std.specs.Prelude.{◌≡◌, true, ◌≤◌, length};
 ghost use Rattle.rules.specs.Script.{accepted};
 ghost use Rattle.printing.specs.Passes.{WalkedFront, refused_by};
@@ -14,7 +16,7 @@ pub const REFUSED_MISTAKE: u64 = 11;
 pub const REFUSED_PRINT: u64 = 12;
 
 // The bytes written; or the number of the question that was answered with no, and its figure.
-#[derive(Drop)]
+#[derive(Clone, Copy)]
 pub enum Answer {
     Done(usize),
     Refused(u64, u64),

@@ -4,7 +4,7 @@ use mathlib.Core.Path.{◌≡◌, refl, ap, sym, ◌∙◌}
 use mathlib.Core.Bool.{Bool, true, false, ◌&&◌, ◌||◌, not, false≢true}
 use mathlib.Core.List.{[], ◌∷◌, ◌++◌, append_assoc}
 use mathlib.Core.Option.{none}
-use borrow.Author.Tests.{not_true}
+use borrow.Author.Tests.{not-true}
 use Rattle.characters.specs.Choice.{◌is◌, within}
 use Rattle.characters.proofs.Choice.{if_all}
 use Rattle.rules.specs.Text.{Char, Text, ch, text, one_of, is_digit, is_letter, is_hex_digit, is_ident_part}
@@ -52,7 +52,7 @@ abbrev pub none_of : (Char → Bool) → Text → Bool
 none_of p ds = all_of (λ c. not (p c)) ds
 
 pub none_of_lem : (p : Char → Bool) (ds : Text) (c : Char) → none_of p ds ≡ true → one_of ds c ≡ true → p c ≡ false
-none_of_lem p ds c h e = not_true (p c) (all_of_lem (λ c. not (p c)) ds c h e)
+none_of_lem p ds c h e = not-true (p c) (all_of_lem (λ c. not (p c)) ds c h e)
 
 pub next_keeps : (p : Char → Bool) (t r Y : Text) → next p (t ++ r) ≡ false → next p Y ≡ false → next p (t ++ Y) ≡ false
 unfolding next

@@ -7,7 +7,7 @@ use mathlib.Core.List.{List, [], ◌∷◌, ◌++◌, map, append_assoc, map-app
 use mathlib.Core.Option.{Option, none, some}
 use Prim.Native.Nat.{ℕ, suc, ◌≤◌, zero, zero-le}
 use native.Mathlib.Omega.{arith}
-use borrow.Author.Tests.{not_true}
+use borrow.Author.Tests.{not-true}
 use lib.Seq.{get_or_at}
 use lib.ListN.{length, length-append, drop, take, get_or, length-map}
 use Rattle.characters.specs.Choice.{◌is◌, if◌then◌else◌}
@@ -117,7 +117,7 @@ keyword_kind : (rows : List (Text × ℕ)) (t : Text) → keywords_no_eof rows �
 unfolding keyword_in keywords_no_eof
 keyword_kind [] t h = refl
 keyword_kind (r ∷ rs) t h =
-    if_all (λ k. (k is EOF) ≡ false) (same_text t r.0) (λ _. not_true (r.1 is EOF) (and_left (not (r.1 is EOF)) (keywords_no_eof rs) h))
+    if_all (λ k. (k is EOF) ≡ false) (same_text t r.0) (λ _. not-true (r.1 is EOF) (and_left (not (r.1 is EOF)) (keywords_no_eof rs) h))
     (λ _. keyword_kind rs t (and_right (not (r.1 is EOF)) (keywords_no_eof rs) h))
 
 name_kind : (t : Text) → (lookup_keyword t is EOF) ≡ false
@@ -145,17 +145,17 @@ mark_kinds c cs = row (lookup c MARKS) refl cs
     two : (k : ℕ) (o : Option ℕ) (d : Char) (cs : Text) → (k is EOF) ≡ false → third_no_eof o ≡ true → Kinds (two_marks k o c d cs).pieces
     two k none d cs e h = (e, tt)
     two k (some third) d cs e h =
-        if_all (λ (s : Segment). Kinds s.pieces) (starts_with (d ∷ []) cs) (λ _. (not_true (third is EOF) h, tt)) (λ _. (e, tt))
+        if_all (λ (s : Segment). Kinds s.pieces) (starts_with (d ∷ []) cs) (λ _. (not-true (third is EOF) h, tt)) (λ _. (e, tt))
 
     column : (r : Row) → row_no_eof c r ≡ true → (o : Option ℕ) (d : Char) (cs : Text) → lookup d r.columns ≡ o → Kinds (mark_with r.alone c o d cs).pieces
-    column r h none d cs e = (not_true (r.alone is EOF) (and_left (not (r.alone is EOF)) _ h), tt)
+    column r h none d cs e = (not-true (r.alone is EOF) (and_left (not (r.alone is EOF)) _ h), tt)
     column r h (some k) d cs e =
         let g : column_no_eof d k ≡ true = found_right column_no_eof d r.columns k (and_right (not (r.alone is EOF)) _ h) e in
-        two k (lookup k THIRDS) d cs (not_true (k is EOF) (and_left (not (k is EOF)) _ g)) (and_right (not (k is EOF)) _ g)
+        two k (lookup k THIRDS) d cs (not-true (k is EOF) (and_left (not (k is EOF)) _ g)) (and_right (not (k is EOF)) _ g)
 
     row : (o : Option Row) → lookup c MARKS ≡ o → (cs : Text) → Kinds (mark_in o c cs).pieces
     row none e cs = (refl, tt)
-    row (some r) e [] = (not_true (r.alone is EOF) (and_left (not (r.alone is EOF)) _ (row_kinds c r e)), tt)
+    row (some r) e [] = (not-true (r.alone is EOF) (and_left (not (r.alone is EOF)) _ (row_kinds c r e)), tt)
     row (some r) e (d ∷ cs) = column r (row_kinds c r e) (lookup d r.columns) d cs refl
 
 slash_kinds : (cs : Text) → Kinds (parse_slash_or_comment cs).pieces

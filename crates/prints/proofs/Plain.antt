@@ -6,7 +6,7 @@ use mathlib.Core.List.{List, [], ◌∷◌, ◌++◌, map}
 use mathlib.Core.Option.{Option, none, some}
 use Prim.Native.Nat.{ℕ}
 use native.Mathlib.Omega.{arith}
-use borrow.Author.Tests.{not_true}
+use borrow.Author.Tests.{not-true}
 use Rattle.characters.specs.Choice.{◌is◌}
 use Rattle.characters.proofs.Choice.{if_all}
 use Rattle.rules.specs.Text.{Char, Text, ch, text, one_of, is_digit, is_ident_part, is_empty, same_text, is_ident_start}
@@ -53,7 +53,7 @@ record FourNot (k : ℕ) : Type 0 where
 four_not : (k : ℕ) → plain_kind k ≡ true → FourNot k
 unfolding plain_kind one_of
 four_not k e =
-    let q : (k is CharLiteral || (k is DoubleColonT || (k is StringInterpStart || (k is DocComment || false)))) ≡ false = not_true _ e in
+    let q : (k is CharLiteral || (k is DoubleColonT || (k is StringInterpStart || (k is DocComment || false)))) ≡ false = not-true _ e in
     let q₁ = or_right (k is CharLiteral) _ q in
     let q₂ = or_right (k is DoubleColonT) _ q₁ in
     record { three = or_left (k is CharLiteral) _ q; assign = or_left (k is DoubleColonT) _ q₁; dollar = or_left (k is StringInterpStart) _ q₂; doc = or_left (k is DocComment) false (or_right (k is StringInterpStart) _ q₂) }
@@ -168,7 +168,7 @@ two_plain k none c d cs again f e n =
       token = w;
       only = refl;
       spelled = same_text_lem (emitted (lone w)) (c ∷ d ∷ []) (and_left (same_text (emitted (lone w)) (c ∷ d ∷ [])) (not (k is DocComment)) e);
-      no_doc = not_true (k is DocComment) (and_right (same_text (emitted (lone w)) (c ∷ d ∷ [])) (not (k is DocComment)) e);
+      no_doc = not-true (k is DocComment) (and_right (same_text (emitted (lone w)) (c ∷ d ∷ [])) (not (k is DocComment)) e);
       right = refl;
       shut = refl;
     }
@@ -233,7 +233,7 @@ mark_plain_lem c cs q = row (lookup c MARKS) refl cs q
     column r e h (some k) d cs l =
         let rows : all_rows (column_plain c) r.columns ≡ true = and_right (is_none (lookup (ch " ") r.columns)) _ (and_right (plain_kind r.alone) _ h) in
         let ok : column_plain c d k ≡ true = found_right (column_plain c) d r.columns k rows l in
-        two_plain k (lookup k THIRDS) c d cs (parse_mark c) (mark_column c r d k e l) (and_right (not (ch " " is d)) _ ok) (not_true (ch " " is d) (and_left (not (ch " " is d)) (pair_plain c d k (lookup k THIRDS)) ok))
+        two_plain k (lookup k THIRDS) c d cs (parse_mark c) (mark_column c r d k e l) (and_right (not (ch " " is d)) _ ok) (not-true (ch " " is d) (and_left (not (ch " " is d)) (pair_plain c d k (lookup k THIRDS)) ok))
 
     row : (o : Option Row) → lookup c MARKS ≡ o → (cs : Text) → (mark_in o c cs).faults ≡ [] → Plain c (mark_in o c cs) (parse_mark c)
     row none e cs q = let z : ◌≡◌ {A = ℕ} 0 1 = cc in absurd (omega arith)

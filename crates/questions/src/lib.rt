@@ -1,4 +1,6 @@
 // The questions that are asked of a script and of the buffers before the answer.
+#![tactic(auto)]
+
 ghost use Rattle.std.specs.Prelude.{◌≡◌};
 ghost use Rattle.questions.specs.Questions.{ask_text, ask_room};
 
@@ -16,7 +18,7 @@ pub const REFUSED_TEXTS: u64 = 4;
 pub const REFUSED_ERRORS: u64 = 5;
 
 // The answer to a question: yes; or no, with the question's number and its figure.
-#[derive(Drop)]
+#[derive(Clone, Copy)]
 pub enum Asked {
     Yes,
     No(u64, u64),

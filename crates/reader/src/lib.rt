@@ -1,5 +1,7 @@
 // A reader that holds a slice of token records and a place in it: thin functions over those of `record_reading`, whose answers hold the
 // place where the reader then stands.
+#![tactic(auto)]
+
 ghost use Rattle.std.specs.Prelude.{◌≡◌};
 ghost use Rattle.records.specs.Answers.{of_next, of_consumed, of_matched};
 ghost use Rattle.record_reading.specs.Reading.{next_at, consume_at, match_at};
@@ -7,7 +9,7 @@ ghost use Rattle.record_reading.specs.Reading.{next_at, consume_at, match_at};
 use record_reading::read;
 use records::answers::{Consumed, Matched, Next};
 
-#[derive(Drop)]
+#[derive(Clone, Copy)]
 pub struct Reader<'a> {
     pub records: &'a [u8],
     pub at: usize,

@@ -1,4 +1,6 @@
 // The text call and its check.
+#![tactic(auto)]
+
 ghost use Rattle.std.specs.Prelude.{◌≡◌, length};
 ghost use Rattle.byte_order_mark.specs.Mark.{after_mark};
 ghost use Rattle.records.specs.Answers.{of_text_check};

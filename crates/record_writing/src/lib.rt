@@ -1,4 +1,6 @@
 // Records written at a place of a lent buffer. All other bytes keep.
+#![tactic(auto)]
+
 ghost use Rattle.std.specs.Prelude.{◌≡◌, [], ◌∷◌, ◌+◌, ◌≤◌, length};
 ghost use Rattle.std.proofs.lemmas.List.Edits.{sets};
 ghost use Rattle.records.specs.Fields.{PAIR, SPAN, HEAD};

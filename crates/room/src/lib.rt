@@ -1,4 +1,6 @@
 // What a script takes of the three buffers, and what any takes at most.
+#![tactic(auto)]
+
 ghost use Rattle.std.specs.Prelude.{◌≡◌, ◌≤◌};
 ghost use Rattle.rules.specs.Script.{LIMIT};
 ghost use Rattle.room.specs.Room.{roomy};
@@ -6,7 +8,7 @@ ghost use Rattle.room.specs.Room.{roomy};
 use records::fields::{LONGEST_ERROR, LONGEST_TOKEN};
 
 // The bytes used in each buffer, the number of tokens, and whether nothing is open at the end.
-#[derive(Drop)]
+#[derive(Clone, Copy)]
 pub struct Used {
     pub tokens: usize,
     pub texts: usize,

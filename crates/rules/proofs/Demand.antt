@@ -5,7 +5,7 @@ use mathlib.Core.Bool.{Bool, true, false, ◌&&◌, not}
 use mathlib.Core.List.{List, [], ◌∷◌, ◌++◌, map, map-append, map-map, drop_last, append-nil}
 use Prim.Native.Nat.{ℕ, ◌+◌, ◌≤◌, ◌<◌}
 use native.Mathlib.Omega.{arith}
-use borrow.Author.Tests.{le-leb, not_true}
+use borrow.Author.Tests.{le-leb, not-true}
 use lib.Dec.{leb}
 use lib.ListN.{length, length-append}
 use Rattle.characters.specs.Choice.{within}
@@ -96,7 +96,7 @@ texts_join a b valid none j =
 pub joined_closed : (a b : List ℕ) → is_utf8 a ≡ true → has_mark b ≡ false → script_closed a ≡ true → script_closed (joined a b) ≡ script_closed b
 unfolding script_closed closed
 joined_closed a b valid none c =
-    let o = not_true (lexed (script_text a)).open_end c in
+    let o = not-true (lexed (script_text a)).open_end c in
     rw (joined_text a valid b none, whole (script_text a) (script_text b) o, o)
 
 -- ── An empty second script ──

@@ -4,7 +4,7 @@ use mathlib.Core.Bool.{Bool, true, false, ◌||◌}
 use mathlib.Core.List.{List, [], ◌∷◌, ◌++◌, map, map-append, drop_last, append_assoc}
 use Prim.Native.Nat.{ℕ, zero, suc, ◌+◌, ◌≤◌, zero-le, suc-le-suc}
 use native.Mathlib.Omega.{arith}
-use borrow.Author.Tests.{not_true}
+use borrow.Author.Tests.{not-true}
 use lib.Seq.{drop-append_seam}
 use lib.ListN.{length, drop, length-append}
 use Rattle.characters.specs.Choice.{within}
@@ -141,7 +141,7 @@ pub record TextsJoin (A B : Text) : Type 0 where
 pub closed_joins : (A B : Text) → closed A ≡ true → TextsJoin A B
 unfolding closed tokens errors single
 closed_joins A B c =
-    let o : (lexed A).open_end ≡ false = not_true (lexed A).open_end c in
+    let o : (lexed A).open_end ≡ false = not-true (lexed A).open_end c in
     let l = (lexed A).stop.line in
     record {
       tokens_join =

@@ -1,5 +1,7 @@
 // The lexical rules stand in specs/, the theorems about them in proofs/. The code here is the names of the numbers that both speak
 // of.
+#![tactic(auto)]
+
 pub mod kinds; // kinds.rt: the kinds of tokens
 pub mod error_kinds; // error_kinds.rt: the kinds of errors
 

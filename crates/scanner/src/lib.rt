@@ -1,4 +1,6 @@
 // One step, outside and inside of strings.
+#![tactic(auto)]
+
 ghost use Rattle.std.specs.Prelude.{◌≡◌};
 ghost use Rattle.classes.specs.Classes.{class_table};
 ghost use Rattle.keyword_tables.specs.Keywords.{slot_table, keyword_table};
@@ -15,7 +17,7 @@ use strings::{Piece, pieces};
 
 // Where a step begins: the step itself where it is known already; else the position at which one outside of strings begins, and how
 // many bytes of the errors are used there. It is a struct because a step in an enum's case is copied byte by byte.
-#[derive(Drop)]
+#[derive(Clone, Copy)]
 pub struct Entry {
     pub step: Step,
     pub at: Position,

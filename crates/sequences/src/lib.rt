@@ -1,4 +1,6 @@
 // UTF-8 by RFC 3629: the character that four bytes begin with, and the character at a place of any text.
+#![tactic(auto)]
+
 ghost use Rattle.std.specs.Prelude.{◌≡◌, ◌+◌, ◌≤◌, length};
 ghost use Rattle.characters.specs.Utf8.{second_ok, two_of, three_of, four_of, sequence, decode_at};
 

@@ -4,7 +4,7 @@ use mathlib.Core.Bool.{Bool, true, false, ◌&&◌, not, true≢false}
 use mathlib.Core.List.{List, [], ◌∷◌}
 use mathlib.Core.Option.{Option, none, some}
 use Prim.Native.Nat.{ℕ}
-use borrow.Author.Tests.{not_false}
+use borrow.Author.Tests.{not-false}
 use Rattle.characters.specs.Choice.{◌is◌}
 use Rattle.characters.specs.Space.{is_white}
 use Rattle.characters.proofs.Choice.{if_all}
@@ -149,9 +149,9 @@ module _ (cs : Text) (h : is_skipped cs ≡ false) where
   -- Two slashes begin a doc comment.
   pub kept_line : starts_with (text "//") cs ≡ true → starts_with (text "///") cs ≡ true
   unfolding opens_line
-  kept_line e = not_false (starts_with (text "///") cs) (rw e at (not_skipped (opens_line cs) (line_skipped cs)))
+  kept_line e = not-false (starts_with (text "///") cs) (rw e at (not_skipped (opens_line cs) (line_skipped cs)))
 
   -- So do a slash and a star.
   pub kept_block : starts_with (text "/*") cs ≡ true → opens_doc cs ≡ true
   unfolding opens_block
-  kept_block e = not_false (opens_doc cs) (rw e at (not_skipped (opens_block cs) (block_skipped cs)))
+  kept_block e = not-false (opens_doc cs) (rw e at (not_skipped (opens_block cs) (block_skipped cs)))

@@ -1,4 +1,6 @@
 // White space and the comments that are skipped.
+#![tactic(auto)]
+
 ghost use Rattle.std.specs.Prelude.{◌≡◌, ◌≤◌, length, get_or};
 ghost use Rattle.characters.specs.Utf8.{chars_at};
 ghost use Rattle.rules.specs.Text.{ch};
@@ -21,14 +23,14 @@ const LINE_FEED: u32 = b'\n' as u32;
 const SKIPPED_LINE_COLUMN: usize = 2;
 
 // A comment that is skipped: the position behind it, and whether it is closed; or none.
-#[derive(Drop)]
+#[derive(Clone, Copy)]
 pub enum Comment {
     Past(Closing),
     Nothing,
 }
 
 // The position behind what was skipped, the place after its errors, and whether the text ran out in it.
-#[derive(Drop)]
+#[derive(Clone, Copy)]
 pub struct Skipped {
     pub at: Position,
     pub errors: usize,

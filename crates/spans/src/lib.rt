@@ -1,16 +1,18 @@
 // Positions and spans, as in span.rs.
+#![tactic(auto)]
+
 ghost use Rattle.std.specs.Prelude.{◌≡◌};
 ghost use Rattle.spans.specs.Span.{single, earlier, later, merge};
 
 // Where a character stands in a text after its byte-order mark: its byte offset, from 0, and its line and column, from 1.
-#[derive(Drop)]
+#[derive(Clone, Copy)]
 pub struct Position {
     pub offset: usize,
     pub line: usize,
     pub col: usize,
 }
 
-#[derive(Drop)]
+#[derive(Clone, Copy)]
 pub struct Span {
     pub start: usize,
     pub end: usize,

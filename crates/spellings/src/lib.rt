@@ -1,4 +1,6 @@
 // The fixed spellings.
+#![tactic(auto)]
+
 ghost use Rattle.std.specs.Prelude.{◌≡◌};
 ghost use Rattle.spellings.specs.Spelling.{spelling_row, spelling_table};
 

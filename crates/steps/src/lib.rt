@@ -1,24 +1,26 @@
 // What a scanning step is: where the cursor stands, and the token that a step gives.
+#![tactic(auto)]
+
 use spans::{Position, Span};
 
 pub mod made; // made.rt: the steps that give a token
 
 // Where the cursor stands: outside of strings, inside a string with the place, line and column of its start, or behind EOF.
-#[derive(Drop)]
+#[derive(Clone, Copy)]
 pub enum Within {
     Outside,
     Inside(usize, usize, usize),
     Ended,
 }
 
-#[derive(Drop)]
+#[derive(Clone, Copy)]
 pub struct Cursor {
     pub at: Position,
     pub within: Within,
 }
 
 // How far the text buffer and the error buffer are filled.
-#[derive(Drop)]
+#[derive(Clone, Copy)]
 pub struct Fill {
     pub texts: usize,
     pub errors: usize,
@@ -26,7 +28,7 @@ pub struct Fill {
 
 // A token: what its record holds, the bytes used in the text buffer and in the error buffer behind it, and whether the text ran
 // out in it.
-#[derive(Drop)]
+#[derive(Clone, Copy)]
 pub struct Token {
     pub kind: u8,
     pub span: Span,
@@ -38,7 +40,7 @@ pub struct Token {
 }
 
 // A token and the next cursor, or the end.
-#[derive(Drop)]
+#[derive(Clone, Copy)]
 pub enum Step {
     Token(Token, Cursor),
     End,

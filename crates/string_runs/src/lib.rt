@@ -1,4 +1,6 @@
 // The units of a string up to where none stands, written while they are scanned.
+#![tactic(auto)]
+
 ghost use Rattle.std.specs.Prelude.{◌+◌, ◌*◌, ◌≤◌, length};
 ghost use Rattle.rules.specs.Script.{LIMIT};
 ghost use Rattle.records.specs.Records.{error_record};
@@ -14,14 +16,14 @@ use string_units::{Found, Made, Mistake};
 use walks::error;
 
 // Units without errors, one after another: where they end, and how many bytes of the texts are used then.
-#[derive(Drop)]
+#[derive(Clone, Copy)]
 pub struct Written {
     pub at: Position,
     pub texts: usize,
 }
 
 // Units one after another: where they end, and how many bytes of the two buffers are used then.
-#[derive(Drop)]
+#[derive(Clone, Copy)]
 pub struct Run {
     pub at: Position,
     pub texts: usize,

@@ -1,4 +1,6 @@
 // The tokens of strings at a position: strings by their pieces, raw strings, character literals, and `${` outside of strings.
+#![tactic(auto)]
+
 ghost use Rattle.std.specs.Prelude.{◌≡◌, true, false};
 ghost use Rattle.characters.specs.Utf8.{chars_at};
 ghost use Rattle.rules.specs.Text.{ch};

@@ -1,4 +1,6 @@
 // One unit of a string: a character, an escape, or a bad escape.
+#![tactic(auto)]
+
 ghost use Rattle.std.specs.Prelude.{◌≡◌};
 ghost use Rattle.characters.specs.Utf8.{chars_at};
 ghost use Rattle.rules.specs.Scan.{next};
@@ -24,7 +26,7 @@ const DOLLAR: u32 = b'$' as u32;
 pub const LETTER_U: u32 = b'u' as u32;
 
 // What a unit makes: nothing, the bytes that it takes, or one character.
-#[derive(Drop)]
+#[derive(Clone, Copy)]
 pub enum Made {
     Nothing,
     Own,
@@ -32,7 +34,7 @@ pub enum Made {
 }
 
 // The error of a unit: none, a bad `\u`, or a bad escape with its letter. It stands behind the unit's backslash.
-#[derive(Drop)]
+#[derive(Clone, Copy)]
 pub enum Mistake {
     None,
     BadUnicode,
@@ -40,7 +42,7 @@ pub enum Mistake {
 }
 
 // A unit of a string, and the position after it.
-#[derive(Drop)]
+#[derive(Clone, Copy)]
 pub struct Unit {
     pub next: Position,
     pub made: Made,
@@ -48,7 +50,7 @@ pub struct Unit {
 }
 
 // The unit at a position, or none.
-#[derive(Drop)]
+#[derive(Clone, Copy)]
 pub enum Found {
     Some(Unit),
     None,

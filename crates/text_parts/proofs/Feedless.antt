@@ -6,7 +6,7 @@ use Prim.Native.Nat.{ℕ, ◌≤◌}
 use native.Mathlib.Omega.{arith}
 use lib.Dec.{leb}
 use lib.Seq.{slice}
-use borrow.Author.Tests.{not_true, eqb-false, ne_eqb}
+use borrow.Author.Tests.{not-true, eqb-false, ne_eqb}
 use Rattle.characters.specs.Choice.{◌is◌}
 use Rattle.characters.specs.Space.{is_white}
 use Rattle.characters.specs.Utf8.{encode_char, encode, chars_at}
@@ -66,7 +66,7 @@ unfolding run in_line
 none_run [] = none_nil
 none_run (c ∷ cs) =
     if_all (λ (y : Part). NoFeed y.taken) (not (c is LF))
-    (λ e. none_cons c (run (in_line true) cs).taken (turned (not_true (c is LF) e)) (none_run cs)) (λ _. none_nil)
+    (λ e. none_cons c (run (in_line true) cs).taken (turned (not-true (c is LF) e)) (none_run cs)) (λ _. none_nil)
   where
     turned : (c is LF) ≡ false → (LF is c) ≡ false
     turned e = ne_eqb LF c (λ q. eqb-false c LF e (sym q))

@@ -1,9 +1,11 @@
 // The text of a token in parts, one after another, without a buffer: the units of a string, and the lines of a doc comment.
+#![tactic(auto)]
+
 pub mod units; // units.rt: the units of a string
 pub mod lines; // lines.rt: the lines of a block doc comment
 
 // A part of a text: bytes of the slice that the text is read from, one character, or nothing.
-#[derive(Drop)]
+#[derive(Clone, Copy)]
 pub enum Part {
     Bytes(usize, usize),
     Char(u32),

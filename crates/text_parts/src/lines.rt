@@ -11,7 +11,7 @@ const LINE_FEED: u32 = b'\n' as u32;
 
 // Where the walk over the lines stands: a line that has still to be given, if it is not empty, behind the line feeds that wait before
 // it; the place of the line after it; and whether there is none.
-#[derive(Drop)]
+#[derive(Clone, Copy)]
 pub struct Cursor {
     pub from: usize,
     pub to: usize,
@@ -21,7 +21,7 @@ pub struct Cursor {
 }
 
 // The next part and the cursor behind it; or the text is over.
-#[derive(Drop)]
+#[derive(Clone, Copy)]
 pub struct Step {
     pub part: Part,
     pub cursor: Cursor,

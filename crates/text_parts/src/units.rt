@@ -11,7 +11,7 @@ const ESCAPE_BYTES: usize = 2;
 
 // The next part and the place behind it; or the text is over. `plain` says that each character of the part stands for itself, `bad` that
 // an error was recorded in it.
-#[derive(Drop)]
+#[derive(Clone, Copy)]
 pub struct Step {
     pub part: Part,
     pub at: usize,

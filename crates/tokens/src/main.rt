@@ -1,4 +1,6 @@
 // Lists the tokens and errors of the script on standard input, which has at most 1,024 bytes (document 01, under "Small scripts").
+#![tactic(auto)]
+
 ghost use Rattle.std.specs.Prelude.{◌≡◌, ◌≤◌, length};
 ghost use Rattle.input.specs.Input.{InputWithin};
 ghost use Rattle.listing.specs.Listing.{LONGEST};

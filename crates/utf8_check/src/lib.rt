@@ -1,4 +1,6 @@
 // The check of a text: its first sequence that is not UTF-8.
+#![tactic(auto)]
+
 ghost use Rattle.std.specs.Prelude.{◌≡◌, ◌+◌, ◌-◌, ◌≤◌, length};
 ghost use Rattle.characters.specs.Utf8.{first_bad};
 ghost use Rattle.characters.specs.Valid.{bad_from};
@@ -7,7 +9,7 @@ ghost use Rattle.utf8_check.specs.Check.{BLOCK, ascii, Clean, Progressed};
 use characters::{Checked, Decoded};
 
 // How far a part of the check came.
-#[derive(Drop)]
+#[derive(Clone, Copy)]
 enum Progress {
     // No bad sequence up to this place.
     Reached(usize),

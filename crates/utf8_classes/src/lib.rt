@@ -1,4 +1,6 @@
 // The class of a bad sequence (document 02, order 1).
+#![tactic(auto)]
+
 ghost use Rattle.std.specs.Prelude.{◌≡◌, drop};
 ghost use Rattle.characters.specs.Utf8.{is_cut, has_own_range, is_barred, bad_class};
 

@@ -3,7 +3,7 @@ use mathlib.Core.Path.{◌≡◌, refl, sym, ◌∙◌}
 use mathlib.Core.Bool.{Bool, true, false, ◌&&◌, not, false≢true, true≢false}
 use mathlib.Core.List.{[], ◌∷◌}
 use lib.ListN.{drop}
-use borrow.Author.Tests.{not_true}
+use borrow.Author.Tests.{not-true}
 use Rattle.characters.specs.Choice.{◌is◌, within}
 use Rattle.characters.specs.Space.{is_white}
 use Rattle.characters.proofs.Choice.{and_both}
@@ -95,7 +95,7 @@ line_segment (c ∷ cs) e =
     let b = and_both (starts_with (text "//") (c ∷ cs)) (not (starts_with (text "///") (c ∷ cs))) e in
     let h = starts_head (ch "/") (text "/") c cs b.0 in
     let two = peeled c cs h (text "/") true b.0 in
-    let three = peeled c cs h (text "//") false (not_true _ b.1) in
+    let three = peeled c cs h (text "//") false (not-true _ b.1) in
     slash_is c cs h ∙ rw (three, two)
 
 pub line_doc_segment : (cs : Text) → starts_with (text "///") cs ≡ true → segment cs ≡ line_doc (drop 3 cs)
@@ -128,7 +128,7 @@ block_segment (c ∷ cs) e =
     let h = starts_head (ch "/") (text "*") c cs b.0 in
     let star = peeled c cs h (text "*") true b.0 in
     let one = starts_other (ch "*") (ch "/") [] [] cs refl star in
-    slash_is c cs h ∙ rw (starts_longer (ch "/") (text "/") cs one, one, doc_peeled c cs h false (not_true _ b.1), star)
+    slash_is c cs h ∙ rw (starts_longer (ch "/") (text "/") cs one, one, doc_peeled c cs h false (not-true _ b.1), star)
 
 -- No comment: a mark that begins with a slash.
 pub slash_segment : (cs : Text) → starts_with (text "/") cs ≡ true → starts_with (text "//") cs ≡ false → starts_with (text "/*") cs ≡ false

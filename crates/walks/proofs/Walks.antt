@@ -5,7 +5,7 @@ use mathlib.Core.List.{List, [], ◌∷◌, ◌++◌}
 use Prim.Native.Nat.{ℕ, ◌+◌, ◌-◌}
 use lib.Dec.{leb}
 use native.Mathlib.Omega.{arith}
-use borrow.Author.Tests.{not_true}
+use borrow.Author.Tests.{not-true}
 use Rattle.characters.specs.Choice.{if◌then◌else◌, ◌is◌}
 use Rattle.characters.specs.Utf8.{chars_at}
 use Rattle.characters.proofs.Choice.{and_both}
@@ -57,7 +57,7 @@ same_stops stop l = record { first = l.1; second = l.1; third = l.1 }
 -- No mark that begins with `stop` begins at such a character.
 plain_starts : (stop : Char) (ms : Text) (c : Char) (cs : Text) → plain_to stop c ≡ true → starts_with (stop ∷ ms) (c ∷ cs) ≡ false
 unfolding is_plain starts_with
-plain_starts stop ms c cs e = rw (not_true (c is stop) (and_both (leb 11 c && not (c is stop) && not (c is stop)) (not (c is stop)) e).1)
+plain_starts stop ms c cs e = rw (not-true (c is stop) (and_both (leb 11 c && not (c is stop) && not (c is stop)) (not (c is stop)) e).1)
 
 -- A part in front of what stands before a mark.
 abbrev passes_all : Text → Upto → Upto

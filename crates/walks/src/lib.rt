@@ -1,4 +1,6 @@
 // Walks to a closing mark, over lines, for the crates that skip comments and make tokens; and the error of what is not closed.
+#![tactic(auto)]
+
 use spans::Position;
 
 pub mod ahead; // ahead.rt: what stands at a place
@@ -6,7 +8,7 @@ pub mod walk; // walk.rt: walks to a closing mark
 pub mod error; // error.rt: the error of what is not closed
 
 // Where a walk to a closing mark ended, and whether it found the mark.
-#[derive(Drop)]
+#[derive(Clone, Copy)]
 pub struct Closing {
     pub at: Position,
     pub found: bool,

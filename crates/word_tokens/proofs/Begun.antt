@@ -4,7 +4,7 @@ use mathlib.Core.Bool.{Bool, true, false}
 use mathlib.Core.List.{List}
 use Prim.Native.Nat.{ℕ, ◌+◌}
 use lib.ListN.{get_or}
-use borrow.Author.Tests.{eqb-true, eqb-false, not_true}
+use borrow.Author.Tests.{eqb-true, eqb-false, not-true}
 use Rattle.characters.specs.Choice.{◌is◌, within}
 use Rattle.characters.specs.Utf8.{chars_at}
 use Rattle.rules.specs.Text.{Text, text}
@@ -24,7 +24,7 @@ module _ (s : List ℕ) (at k : ℕ) (w : Begun s at k) where
 
   no_brace : (k is DOLLAR) ≡ true → starts_with (text "{") (chars_at s (at + 1)) ≡ false
   unfolding begins_word
-  no_brace e = not_true _ (rw e at w.begins)
+  no_brace e = not-true _ (rw e at w.begins)
 
   dollar_plain : (cs : Text) → starts_with (text "{") cs ≡ false → Plain (parse_dollar cs)
   unfolding parse_dollar is_made within

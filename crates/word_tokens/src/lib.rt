@@ -1,4 +1,6 @@
 // The words at a position outside of strings; and what stands where nothing begins: a character that is not expected, or EOF.
+#![tactic(auto)]
+
 ghost use Rattle.std.specs.Prelude.{◌≡◌, true};
 ghost use Rattle.characters.specs.Utf8.{chars_at};
 ghost use Rattle.rules.specs.Scan.{next};

@@ -5,7 +5,7 @@ use mathlib.Core.List.{List, [], ◌∷◌}
 use Prim.Native.Nat.{ℕ, ◌+◌, ◌≤◌}
 use lib.ListN.{length, get_or}
 use native.Mathlib.Omega.{arith}
-use borrow.Author.Tests.{eqb-true, eq-eqb, ne_eqb, not_true}
+use borrow.Author.Tests.{eqb-true, eq-eqb, ne_eqb, not-true}
 use Rattle.characters.specs.Choice.{◌is◌, within}
 use Rattle.characters.specs.Utf8.{chars_at}
 use Rattle.characters.proofs.Choice.{or_neither, within_bounds}
@@ -41,7 +41,7 @@ slash_plain : (cs : Text) → not (starts_with (text "/") cs || starts_with (tex
     → parse_slash_or_comment cs ≡ parse_mark (ch "/") cs
 unfolding parse_slash_or_comment
 slash_plain cs h =
-    let p = or_neither (starts_with (text "/") cs) (starts_with (text "*") cs) (not_true _ h) in
+    let p = or_neither (starts_with (text "/") cs) (starts_with (text "*") cs) (not-true _ h) in
     rw (starts_none (ch "/") (text "/") cs p.0, p.0, starts_none (ch "*") (text "*") cs p.1, p.1)
 
 -- ── What begins at a place ──
@@ -93,7 +93,7 @@ module _ (s : List ℕ) (at k : ℕ) (w : Begun s at k) where
       let n : not (starts_with (text "{") cs) ≡ true = rw e at w.begins in
       word_of s at Ident 1 0 (takes (get_or s at 0) (nothing cs)) (segment (chars_at s at)) (one_cut (omega arith) (omega arith))
       (omega arith) (omega arith)
-      (dollar_segment s at h ∙ rw (not_true (starts_with (text "{") cs) n, text_plain Ident (get_or s at 0 ∷ []) refl, end_word (ch "$" ∷ []), d))
+      (dollar_segment s at h ∙ rw (not-true (starts_with (text "{") cs) n, text_plain Ident (get_or s at 0 ∷ []) refl, end_word (ch "$" ∷ []), d))
 
   module _ (l : k ≡ LETTER → ⊥) (d : k ≡ DIGIT → ⊥) (o : k ≡ DOLLAR → ⊥) where
     -- What is left are the marks.

@@ -1,4 +1,6 @@
 // Words: names, keywords, numbers, marks and the lone dollar sign. They are ASCII and stand on one line.
+#![tactic(auto)]
+
 ghost use Rattle.std.specs.Prelude.{◌≡◌, true, ◌+◌, ◌<◌, length};
 ghost use Rattle.characters.specs.Utf8.{chars_at};
 ghost use Rattle.rules.specs.Lexer.{segment};

@@ -1,0 +1,45 @@
+-- `past_plain` meets its contract. Whatever ends the walk from where the loop stands ends it from its beginning. Assumes nothing.
+use mathlib.Core.Path.{◌≡◌, sym, ◌∙◌, subst}
+use mathlib.Core.Logic.{⊎_elim}
+use Prim.Native.Nat.{ℕ, ◌+◌, ◌-◌}
+use lib.ListN.{length}
+use borrow.Author.Rules.{rules}
+use borrow.Author.Tests.{not-true, not-false}
+use native.Mathlib.Omega.{arith}
+use Rattle.bridge.specs.Bridge.{Stops, is_plain}
+use Rattle.bridge.proofs.Plains.{Mid, mid_start, mid_char, mid_tail, mid_stop, mid_end}
+use Rattle.bridge.proofs.past_plain.Goals as goal
+
+pub loop-at-init : goal.loop-at-init
+loop-at-init c =
+    (mid_start _ c.args.text.now c.args.p c.requires.within, c.requires.stops)
+
+pub returns-then-not-is_plain : goal.returns-then-not-is_plain
+returns-then-not-is_plain c =
+    let g = sym c.is_plain.ensures ∙ c.if-not-is_plain.true in
+    mid_stop _ _ _ c.loop-at.invariant.1 _ _ c.loop-at.at c.loop-at.col c.loop-at.invariant.0 (omega arith) g
+
+pub overflow_add-col : goal.overflow_add-col
+overflow_add-col c =
+    omega (arith, c.loop-at.invariant.0.within.columns, c.loop-at.invariant.0.within.inside, c.loop-at.invariant.0.within.size)
+
+pub loop-at-smaller : goal.loop-at-smaller
+loop-at-smaller c = omega arith
+
+pub loop-at-preserved : goal.loop-at-preserved
+loop-at-preserved c =
+    let g = sym c.is_plain.ensures ∙ c.if-not-is_plain.false in (
+      ⊎_elim
+          (λ u.
+          subst (Mid _ _ _ (c.loop-at.at + 1)) (sym u.1)
+          (mid_char _ _ _ c.loop-at.invariant.1 _ _ c.loop-at.at c.loop-at.col c.loop-at.invariant.0 (omega arith) (sym c.is_tail.ensures ∙ not-true _ u.0.taken) g))
+          (λ u.
+          subst (Mid _ _ _ (c.loop-at.at + 1)) (sym u.1)
+          (mid_tail _ _ _ c.loop-at.invariant.1 _ _ c.loop-at.at c.loop-at.col c.loop-at.invariant.0 (omega arith) (sym c.is_tail.ensures ∙ not-false _ u.0.left)))
+          c.if-not-is_tail.branch,
+      c.loop-at.invariant.1,
+    )
+
+pub returns : goal.returns
+returns c =
+    mid_end _ _ _ c.loop-at.invariant.1 _ _ c.loop-at.at c.loop-at.col c.loop-at.invariant.0 (omega arith)

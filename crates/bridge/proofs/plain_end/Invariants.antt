@@ -1,0 +1,16 @@
+-- `plain_end` meets its contract. Whatever ends the walk from where the loop stands ends it from its beginning. Assumes nothing.
+use mathlib.Core.Path.{sym, ◌∙◌}
+use Prim.Native.Nat.{◌-◌}
+use lib.ListN.{length}
+use borrow.Author.Rules.{rules}
+use borrow.Author.Tests.{not-true, not-false}
+use native.Mathlib.Omega.{arith}
+use Rattle.bridge.specs.Bridge.{Stops, is_plain}
+use Rattle.bridge.proofs.Plains.{MidAt, mid_at_start, mid_at_more, mid_at_stop, mid_at_end}
+use Rattle.bridge.proofs.plain_end.Given as goal
+
+abbrev pub invariant-loop-end : goal.invariant-loop-end
+invariant-loop-end l = MidAt (is_plain l.x l.y l.z) l.text l.initial.end l.end × Stops l.x l.y l.z
+
+abbrev pub decreases-loop-end : goal.decreases-loop-end
+decreases-loop-end l = length l.text - l.end

@@ -1,0 +1,8 @@
+-- `utf8::is_tail` meets its contract. Assumes nothing.
+use Rattle.characters.specs.Utf8.{is_tail}
+use borrow.Author.Rules.{rules}
+use Rattle.characters.proofs.utf8.is_tail.Goals as goal
+
+pub returns : goal.returns
+unfolding is_tail
+returns c = c.within.ensures

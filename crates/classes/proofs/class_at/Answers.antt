@@ -1,0 +1,6 @@
+-- `class_at` meets its contract. Assumes nothing.
+use borrow.Author.Rules.{rules}
+use Rattle.classes.proofs.class_at.Goals as goal
+
+pub returns : goal.returns
+returns c = rw (← c.byte_at.ensures) c.class_of.ensures

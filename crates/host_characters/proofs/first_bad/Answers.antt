@@ -1,0 +1,13 @@
+-- `first_bad` meets its contract.
+use mathlib.Core.Path.{refl, ◌∙◌, sym}
+use Rattle.host_characters.specs.Characters.{check_number, check_figure}
+use borrow.Author.Rules.{rules}
+use Rattle.host_characters.proofs.first_bad.Goals as goal
+
+pub returns-in_default : goal.returns-in_default
+unfolding check_number check_figure
+returns-in_default c = let q = rw (sym c.first_bad.ensures ∙ c.in_default.is) (refl, refl) in record { value = q.0; figure_after = q.1 }
+
+pub returns : goal.returns
+unfolding check_number check_figure
+returns c = let q = rw (sym c.first_bad.ensures ∙ c.in-BadAt.is) (c.bad_class.ensures, refl) in record { value = q.0; figure_after = q.1 }

@@ -1,0 +1,28 @@
+-- `match_kind` meets its contract.
+use mathlib.Core.Path.{refl, sym, ap, ◌∙◌}
+use Rattle.host_answers.specs.Answers.{number_of, slots_after}
+use Rattle.host_matching.specs.Matching.{matched_values}
+use Rattle.records.specs.Answers.{of_matched}
+use borrow.Author.Rules.{rules}
+use borrow.Author.Tests.{not-true, not-false}
+use Rattle.host_matching.proofs.Unknown.{kind_low, match_unknown}
+use Rattle.host_matching.proofs.match_kind.Goals as goal
+
+-- A kind over 125.
+pub returns-then-not-is_kind : goal.returns-then-not-is_kind
+unfolding number_of slots_after
+returns-then-not-is_kind c =
+    let q = rw (match_unknown _ c.args.place c.args.kind (sym c.is_kind.ensures ∙ c.if-not-is_kind.true)) (refl, refl) in record { value = q.0; answer_after = q.1 }
+
+pub overflow_cast-kind : goal.overflow_cast-kind
+overflow_cast-kind c =
+    let h = kind_low c.args.kind (sym c.is_kind.ensures ∙ c.if-not-is_kind.false) in
+    search rules
+
+pub returns-in-Got : goal.returns-in-Got
+unfolding number_of slots_after matched_values
+returns-in-Got c = let q = rw (sym c.match_kind-n.ensures ∙ ap of_matched c.in-Got.is) (refl, rw c.truth_of-same.ensures) in record { value = q.0; answer_after = q.1 }
+
+pub returns-in-Refused : goal.returns-in-Refused
+unfolding number_of slots_after
+returns-in-Refused c = let q = rw (sym c.match_kind-n.ensures ∙ ap of_matched c.in-Refused.is) (refl, refl) in record { value = q.0; answer_after = q.1 }

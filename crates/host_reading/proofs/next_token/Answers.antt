@@ -1,0 +1,15 @@
+-- `next_token` meets its contract.
+use mathlib.Core.Path.{refl, sym, ap, ◌∙◌}
+use Rattle.host_answers.specs.Answers.{number_of, slots_after}
+use Rattle.host_reading.specs.Records.{record_values, token_values}
+use Rattle.records.specs.Answers.{of_next}
+use borrow.Author.Rules.{rules}
+use Rattle.host_reading.proofs.next_token.Goals as goal
+
+pub returns-in-Got : goal.returns-in-Got
+unfolding number_of slots_after record_values token_values
+returns-in-Got c = let q = rw (sym c.next_token-n.ensures ∙ ap of_next c.in-Got.is) (refl, refl) in record { value = q.0; answer_after = q.1 }
+
+pub returns-in-Refused : goal.returns-in-Refused
+unfolding number_of slots_after
+returns-in-Refused c = let q = rw (sym c.next_token-n.ensures ∙ ap of_next c.in-Refused.is) (refl, refl) in record { value = q.0; answer_after = q.1 }

@@ -1,0 +1,14 @@
+-- `run` meets its contract: what is still to be written after each turn completes what the script takes, and fewer tokens are left. Assumes nothing.
+use mathlib.Core.Path.{◌∙◌}
+use lib.ListN.{length}
+use Rattle.steps.specs.Step.{rest}
+use Rattle.list_loop.proofs.Loop.{Going, going_start, going_used, going_tokens, going_count, gave, ended, going_less, going_turn, going_end}
+use borrow.Author.Rules.{rules}
+use native.Mathlib.Omega.{arith}
+use Rattle.list_loop.proofs.run.Given as goal
+
+abbrev pub invariant-loop-t : goal.invariant-loop-t
+invariant-loop-t l = Going l.script l.text l.initial.tokens l.initial.texts l.initial.errors l.tokens l.texts l.errors l.c l.u
+
+abbrev pub decreases-loop-t : goal.decreases-loop-t
+decreases-loop-t l = length (rest l.text l.c).tokens

@@ -1,0 +1,8 @@
+-- `mark_at` meets its contract. Assumes nothing.
+use borrow.Author.Rules.{rules}
+use Rattle.marks.proofs.Marks.{delimiter_word}
+use Rattle.marks.proofs.mark_at.Goals as goal
+
+pub returns-then-first-ge-DELIMITER : goal.returns-then-first-ge-DELIMITER
+returns-then-first-ge-DELIMITER c =
+    delimiter_word c.args.text.now c.args.at c.args.first _ c.requires.first_value c.if-first-ge-DELIMITER.true c.requires.first_bound c.mark_kind-kind.ensures

@@ -1,0 +1,9 @@
+-- `mark_kind` meets its contract. Assumes nothing.
+use borrow.Author.Rules.{rules}
+use Rattle.marks.proofs.Marks.{mark_entry}
+use Rattle.marks.proofs.mark_kind.Goals as goal
+
+pub returns : goal.returns
+returns c =
+    rw (c.requires.marks_value, ← c.column_of-column.ensures.value)
+    (mark_entry c.args.first c.column_of-column.result c.requires.le_first c.requires.first_bound c.column_of-column.ensures.upper_bound)

@@ -1,0 +1,9 @@
+-- `is_letter` meets its contract. Assumes nothing.
+use mathlib.Core.Path.{refl}
+use Rattle.characters.specs.Choice.{within}
+use Rattle.rules.specs.Text.{is_letter}
+use Rattle.names.proofs.is_letter.Goals as goal
+
+pub returns : goal.returns
+unfolding is_letter within
+returns c = refl

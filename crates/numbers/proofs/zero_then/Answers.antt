@@ -1,0 +1,15 @@
+-- `zero_then` meets its contract. Assumes nothing.
+use mathlib.Core.Path.{sym, ◌∙◌}
+use mathlib.Core.List.{[], ◌∷◌}
+use borrow.Author.Tests.{not-true, not-false}
+use borrow.Author.Rules.{rules}
+use Rattle.numbers.proofs.Numbers.{zero_none, zero_next}
+use Rattle.numbers.proofs.zero_then.Goals as goal
+
+pub returns-then-not-is_at : goal.returns-then-not-is_at
+returns-then-not-is_at c = sym (zero_none _ _ _ (sym c.is_at.ensures ∙ c.if-not-is_at.true))
+
+pub returns : goal.returns
+returns c =
+    c.either_at.ensures
+    ∙ sym (zero_next c.args.text.now c.args.at (c.args.a ∷ c.args.b ∷ []) (sym c.is_at.ensures ∙ c.if-not-is_at.false))

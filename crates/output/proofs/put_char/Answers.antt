@@ -1,0 +1,33 @@
+-- `output::put_char` meets its contract. Where the whole fits it is written at once, and where none of it fits nothing is;
+use mathlib.Core.Path.{sym, ◌∙◌}
+use native.Mathlib.Omega.{arith}
+use borrow.Author.Rules.{rules}
+use Rattle.characters.proofs.Widths.{width_bounds, char_length}
+use Rattle.output.proofs.Buffers.{whole_put, none_put, cut_put}
+use Rattle.output.proofs.put_char.Goals as goal
+
+pub overflow_add-at : goal.overflow_add-at
+overflow_add-at c = omega (arith, width_bounds c.args.c)
+
+pub put_char-requires : goal.put_char-requires
+put_char-requires c = let q = omega arith in record { c_bound = q.0; c_in_bounds = q.1 }
+
+pub returns-then-at-n : goal.returns-then-at-n
+returns-then-at-n c = whole_put _ _ _ _ _ _ (char_length _) c.put_char.ensures.0 c.put_char.ensures.1
+
+pub overflow_add-result : goal.overflow_add-result
+overflow_add-result c = omega (arith, width_bounds c.args.c)
+
+pub returns-then-buf-at : goal.returns-then-buf-at
+returns-then-buf-at c = none_put _ _ _ _ (char_length _ ∙ sym c.width_of-n.ensures) c.if-buf-at.true
+
+pub put_char-requires-2 : goal.put_char-requires-2
+put_char-requires-2 c = let q = omega (arith, width_bounds c.args.c) in record { c_bound = q.0; c_in_bounds = q.1 }
+
+pub put_part-requires : goal.put_part-requires
+put_part-requires c = let q = omega (arith, width_bounds c.args.c) in record { from_le_to = q.0; to_in_bounds = q.1.0; to_bound = q.1.1.0; at_bound = q.1.1.1 }
+
+pub returns : goal.returns
+returns c =
+    let m = width_bounds c.args.c in
+    cut_put _ _ _ _ _ _ _ _ (char_length _ ∙ sym c.width_of-n.ensures) (omega (arith, m)) c.put_char-2.ensures.1 c.put_part.ensures

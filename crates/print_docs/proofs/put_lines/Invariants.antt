@@ -1,0 +1,11 @@
+-- `print_docs::put_lines` meets its contract. The invariant: what the cursor still gives, written from here on, gives what the whole
+use native.Mathlib.Omega.{arith}
+use Rattle.text_parts.specs.Lines.{left_size}
+use Rattle.print_docs.proofs.Lining.{Lining, line_start, step_goes, step_over, goes_part, line_small, line_more, line_end}
+use Rattle.print_docs.proofs.put_lines.Given as goal
+
+abbrev pub invariant-loop-n : goal.invariant-loop-n
+invariant-loop-n l = Lining l.part l.initial.out l.out l.at l.initial.cursor l.cursor l.place
+
+abbrev pub decreases-loop-n : goal.decreases-loop-n
+decreases-loop-n l = left_size l.part l.cursor

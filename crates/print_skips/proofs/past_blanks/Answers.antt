@@ -1,0 +1,30 @@
+-- `past_blanks` meets its contract. From the beginning to where the loop stands all is passed. Assumes nothing.
+use mathlib.Core.Path.{◌≡◌, sym, ◌∙◌}
+use Prim.Native.Nat.{◌+◌, ◌-◌}
+use lib.ListN.{length, get_or}
+use native.Mathlib.Omega.{arith}
+use borrow.Author.Rules.{rules}
+use Rattle.classes.specs.Classes.{class_of}
+use Rattle.print_skips.specs.Gaps.{Passed}
+use Rattle.print_skips.proofs.Passing.{passed_none, passed_join, space_passed}
+use Rattle.print_skips.proofs.past_blanks.Goals as goal
+
+pub loop-class-init : goal.loop-class-init
+loop-class-init c = (passed_none _ _ c.requires.within, c.class_at-class.ensures)
+
+pub overflow_add-at : goal.overflow_add-at
+overflow_add-at c =
+    omega (arith, c.loop-class.invariant.0.within.size, c.loop-class.invariant.0.within.inside)
+
+-- One byte more.
+more : (c : tie.In-loop invariant-loop decreases-loop) → Passed c.before.before.before.before.args.text.now c.before.loop.at (c.before.loop.at + 1)
+more c = let l = c.before.loop in space_passed _ l.at l.invariant.0.within (sym l.invariant.1 ∙ c.loop-test.true)
+
+pub loop-class-smaller : goal.loop-class-smaller
+loop-class-smaller c = omega (arith, (more c).within.inside)
+
+pub loop-class-preserved : goal.loop-class-preserved
+loop-class-preserved c = (passed_join _ _ _ _ c.loop-class.invariant.0 (more c), c.class_at-class-in-loop-class.ensures)
+
+pub returns : goal.returns
+returns c = record { passed = c.loop-class.invariant.0; class_is = c.loop-class.invariant.1; stops = c.loop-class-test.false }

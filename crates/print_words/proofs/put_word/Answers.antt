@@ -1,0 +1,9 @@
+-- `put_word` meets its contract. Assumes nothing.
+use mathlib.Core.Path.{refl}
+use borrow.Author.Rules.{rules}
+use Rattle.print_words.proofs.Emitted.{ends_emits}
+use Rattle.print_words.proofs.put_word.Goals as goal
+
+pub returns : goal.returns
+returns c =
+    ends_emits c.args.text.now c.args.from c.args.class _ c.requires.begun c.word_end-end.ensures c.requires.within _ _ c.args.at _ refl c.put_text.ensures

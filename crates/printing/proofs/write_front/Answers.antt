@@ -1,0 +1,24 @@
+-- `printing::write_front` meets its contract. Assumes nothing.
+use mathlib.Core.Path.{refl, sym, ◌∙◌}
+use native.Mathlib.Omega.{arith}
+use lib.ListN.{drop, length-append, length-drop}
+use lib.Seq.{length-take-le}
+use borrow.Author.Rules.{rules}
+use Rattle.printing.proofs.write_front.Goals as goal
+
+pub slice_bounds-write-end-2 : goal.slice_bounds-write-end-2
+slice_bounds-write-end-2 c =
+    sym (length-take-le c.args.n c.args.out.now c.requires.n_in_bounds)
+
+pub shape_of-out : goal.shape_of-out
+shape_of-out c =
+    omega (arith, length-append c.write.new.1.0 (drop c.args.n c.args.out.now), length-drop c.args.n c.args.out.now, length-take-le c.args.n c.args.out.now c.requires.n_in_bounds, c.write.auto.out, c.requires.n_in_bounds)
+
+pub returns : goal.returns
+returns c =
+    record {
+      front = c.write.new.1.0;
+      size = c.write.auto.out ∙ length-take-le c.args.n c.args.out.now c.requires.n_in_bounds;
+      walked = c.write.ensures;
+      after = refl;
+    }

@@ -1,0 +1,12 @@
+-- `Span::earlier` meets its contract.
+use borrow.Author.Tests.{le-leb, lt-leb}
+use Rattle.spans.specs.Span.{earlier}
+use Rattle.spans.proofs.Span.earlier.Goals as goal
+
+pub returns-then-a-b : goal.returns-then-a-b
+unfolding earlier
+returns-then-a-b c = rw (le-leb _ _ c.if-a-b.true)
+
+pub returns-else-a-b : goal.returns-else-a-b
+unfolding earlier
+returns-else-a-b c = rw (lt-leb _ _ c.if-a-b.false)

@@ -1,0 +1,6 @@
+-- `made::made_step` meets its contract.
+use borrow.Author.Rules.{rules}
+use Rattle.steps.proofs.made.made_step.Goals as goal
+
+pub returns : goal.returns
+returns c = rw c.between-span.ensures

@@ -1,0 +1,7 @@
+use Rattle.string_runs.proofs.RunLaws.{behind_put}
+use borrow.Author.Rules.{rules}
+use Rattle.string_runs.proofs.put_behind.Goals as goal
+
+pub returns : goal.returns
+returns c =
+    behind_put _ _ _ _ c.args.p c.args.kind c.args.code c.along-q.result c.between-s.result c.along-q.ensures c.between-s.ensures c.put_error.ensures

@@ -1,0 +1,20 @@
+-- `utf8_classes::bad_class` meets its contract. Assumes nothing.
+use mathlib.Core.Path.{sym, ◌∙◌}
+use borrow.Author.Rules.{rules}
+use Rattle.utf8_classes.proofs.Classes.{at_end, at_cut, at_barred, at_other}
+use Rattle.utf8_classes.proofs.bad_class.Goals as goal
+
+pub returns-then-text-at : goal.returns-then-text-at
+returns-then-text-at c = at_end _ _ c.if-text-at.true
+
+pub returns-then-is_cut : goal.returns-then-is_cut
+returns-then-is_cut c =
+    at_cut c.args.text.now c.args.at (sym c.is_cut.ensures ∙ c.if-is_cut.true)
+
+pub returns-then-is_barred : goal.returns-then-is_barred
+returns-then-is_barred c =
+    at_barred c.args.text.now c.args.at (sym c.is_cut.ensures ∙ c.if-is_cut.false) (sym c.is_barred.ensures ∙ c.if-is_barred.true)
+
+pub returns : goal.returns
+returns c =
+    at_other c.args.text.now c.args.at (sym c.is_cut.ensures ∙ c.if-is_cut.false) (sym c.is_barred.ensures ∙ c.if-is_barred.false)
