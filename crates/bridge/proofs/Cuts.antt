@@ -10,7 +10,7 @@ use native.Mathlib.Numerals.{add-one}
 use Rattle.characters.specs.Utf8.{chars_at}
 use Rattle.characters.proofs.Characters.{chars_ascii}
 use Rattle.rules.specs.Text.{Char, Text}
-use Rattle.rules.specs.Scan.{next, Part, run, one_char, nothing, takes, ◌and-then◌}
+use Rattle.rules.specs.Scan.{next, Part, run, one_char, nothing, takes, ◌and_then◌}
 use Rattle.bridge.specs.Bridge.{Low, Flat, Cut}
 use Rattle.bridge.proofs.Tests.{low_weak}
 use Rattle.bridge.proofs.Bytes.{byte_cons, byte_next, past_end}

@@ -1,6 +1,6 @@
 -- Walks over the characters of a part, by places. Assumes nothing.
 use mathlib.Core.Path.{◌≡◌, refl, sym, ◌∙◌, ap}
-use mathlib.Core.Bool.{Bool, true, false, ◌&&◌, not, and-false, and_true, true≢false, false≢true}
+use mathlib.Core.Bool.{Bool, true, false, ◌&&◌, not, and-false, and-true, true≢false, false≢true}
 use mathlib.Core.List.{List, [], ◌∷◌, ◌++◌, append-nil, append_assoc}
 use Prim.Native.Nat.{ℕ, ◌+◌, ◌≤◌, ◌<◌}
 use native.Mathlib.Nat.{add-zero}
@@ -66,7 +66,7 @@ blank_ends split c e = rw e (sym (and-false (is_white c)))
 
 pub blank_white : (split : Bool) (c : Char) (w : Bool) → in_line split c ≡ true → w ≡ is_white c → w ≡ is_blank split c
 unfolding is_blank
-blank_white split c w e f = f ∙ sym (rw e (and_true (is_white c)))
+blank_white split c w e f = f ∙ sym (rw e (and-true (is_white c)))
 
 -- ── A run of characters ──
 

@@ -10,7 +10,7 @@ use borrow.Author.Tests.{lt-ltb, le-ltb, eqb-true}
 use Rattle.characters.specs.Choice.{if◌then◌else◌, ◌is◌, within}
 use Rattle.characters.specs.Utf8.{chars_at}
 use Rattle.rules.specs.Text.{Char, Text, text, one_of, is_empty, is_digit}
-use Rattle.rules.specs.Scan.{next, run, one_char, nothing, ◌and-then◌}
+use Rattle.rules.specs.Scan.{next, run, one_char, nothing, ◌and_then◌}
 use Rattle.rules.specs.Tables.{IntLiteral, FloatLiteral}
 use Rattle.rules.specs.Numbers.{hex_part, binary_part, is_digit_or_underscore, whole_part, fraction, exponent, maybe_suffix, radix, zero_then, decimal_kind, decimal, parse_number}
 use Rattle.bridge.specs.Bridge.{Low, exactly, Cut}

@@ -8,7 +8,7 @@ use borrow.Author.Tests.{not-true}
 use Rattle.characters.specs.Choice.{◌is◌, within}
 use Rattle.characters.proofs.Choice.{if_all}
 use Rattle.rules.specs.Text.{Char, Text, ch, text, one_of, is_digit, is_letter, is_hex_digit, is_ident_part}
-use Rattle.rules.specs.Scan.{next, starts_with, Part, run, one_char, nothing, takes, ◌and-then◌}
+use Rattle.rules.specs.Scan.{next, starts_with, Part, run, one_char, nothing, takes, ◌and_then◌}
 use Rattle.rules.specs.Tables.{IntLiteral}
 use Rattle.rules.specs.Segment.{whole_token, Segment}
 use Rattle.rules.specs.Numbers.{is_digit_or_underscore, fraction, exponent, maybe_suffix, decimal, radix, parse_number, zero_then, hex_part, binary_part, decimal_kind}

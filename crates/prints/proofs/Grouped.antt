@@ -18,7 +18,7 @@ use Rattle.characters.proofs.Choice.{if_all}
 use Rattle.characters.proofs.Texts.{encode_append, encode_length, bytes_append}
 use Rattle.spans.specs.declared.Position.{Position}
 use Rattle.rules.specs.Text.{Char, Text, ch, text, LF, is_empty, is_ident_part, same_text, is_digit, is_ident_start}
-use Rattle.rules.specs.Scan.{next, starts_with, run, ◌and-then◌}
+use Rattle.rules.specs.Scan.{next, starts_with, run, ◌and_then◌}
 use Rattle.rules.specs.Tokens.{Token}
 use Rattle.rules.specs.Tables.{EOF, KEYWORDS, keyword_in, lookup_keyword, Row, MARKS, THIRDS, lookup, StringLiteral, DocComment}
 use Rattle.rules.specs.Segment.{Piece, Fault, Segment, piece}

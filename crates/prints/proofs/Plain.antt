@@ -10,7 +10,7 @@ use borrow.Author.Tests.{not-true}
 use Rattle.characters.specs.Choice.{◌is◌}
 use Rattle.characters.proofs.Choice.{if_all}
 use Rattle.rules.specs.Text.{Char, Text, ch, text, one_of, is_digit, is_ident_part, is_empty, same_text, is_ident_start}
-use Rattle.rules.specs.Scan.{next, starts_with, run, ◌and-then◌}
+use Rattle.rules.specs.Scan.{next, starts_with, run, ◌and_then◌}
 use Rattle.rules.specs.Tables.{Ident, KEYWORDS, keyword_in, lookup_keyword, Row, MARKS, THIRDS, lookup, IntLiteral, CharLiteral, DoubleColonT, StringInterpStart, DocComment}
 use Rattle.rules.specs.Segment.{Segment, word_token}
 use Rattle.rules.specs.Numbers.{fraction, exponent, decimal, radix, parse_number, whole_part, decimal_kind, zero_then}

@@ -9,7 +9,7 @@ use borrow.Author.Tests.{eqb-true, ne_eqb}
 use Rattle.characters.specs.Choice.{if◌then◌else◌, ◌is◌}
 use Rattle.characters.proofs.Choice.{if_both, if_rel, and_both, or_neither}
 use Rattle.rules.specs.Text.{Char, Text, one_of, LF}
-use Rattle.rules.specs.Scan.{next, starts_with, Part, run, one_char, takes, ◌and-then◌, Upto, passes, up_to}
+use Rattle.rules.specs.Scan.{next, starts_with, Part, run, one_char, takes, ◌and_then◌, Upto, passes, up_to}
 
 -- ── Tests ──
 

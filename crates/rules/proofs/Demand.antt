@@ -86,7 +86,7 @@ unfolding script_tokens script_errors
 texts_join a b valid none j =
     record {
       tokens_join =
-          rw (joined_text a valid b none, j.tokens_join, text_size a valid, map-append as_bytes, map_drop as_bytes, shift_bytes);
+          rw (joined_text a valid b none, j.tokens_join, text_size a valid, map-append as_bytes, map_drop as_bytes) (simp shift_bytes);
       errors_join = rw (joined_text a valid b none, j.errors_join, text_size a valid);
     }
 

@@ -11,7 +11,7 @@ use Rattle.characters.specs.Choice.{◌is◌}
 use Rattle.characters.specs.Space.{is_white}
 use Rattle.characters.proofs.Choice.{if_all}
 use Rattle.rules.specs.Text.{Char, Text, ch, text, one_of, LF, is_digit, is_letter, is_ident_start, is_ident_part, is_empty}
-use Rattle.rules.specs.Scan.{next, starts_with, Part, run, one_char, ◌and-then◌, Upto, up_to, closing}
+use Rattle.rules.specs.Scan.{next, starts_with, Part, run, one_char, ◌and_then◌, Upto, up_to, closing}
 use Rattle.rules.specs.Tables.{Ident, Row, MARKS, THIRDS, lookup}
 use Rattle.rules.specs.Segment.{Fault, Segment, word_token}
 use Rattle.rules.specs.Comments.{white_space, not_lf, line_comment, block_comment}

@@ -11,7 +11,7 @@ use Rattle.characters.specs.Choice.{if◌then◌else◌, ◌is◌, within}
 use Rattle.characters.specs.Space.{is_white}
 use Rattle.characters.proofs.Choice.{if_all, if_both}
 use Rattle.rules.specs.Text.{Char, Text, ch, text, one_of, LF, is_digit, is_letter, is_hex_digit, is_ident_start, is_ident_part, hex_value}
-use Rattle.rules.specs.Scan.{next, starts_with, Part, run, one_char, takes, ◌and-then◌}
+use Rattle.rules.specs.Scan.{next, starts_with, Part, run, one_char, takes, ◌and_then◌}
 use Rattle.rules.specs.Tables.{IntLiteral, Columns, Row, MARKS, THIRDS, ESCAPES, lookup}
 use Rattle.rules.specs.Segment.{Fault, Segment, whole_token}
 use Rattle.rules.specs.Comments.{not_lf, line_comment, block_comment}

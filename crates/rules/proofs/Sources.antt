@@ -9,7 +9,7 @@ use Rattle.characters.specs.Choice.{if◌then◌else◌, ◌is◌}
 use Rattle.characters.specs.Space.{is_white}
 use Rattle.characters.proofs.Choice.{if_all}
 use Rattle.rules.specs.Text.{Char, Text, ch, text, LF, same_text, is_digit, is_ident_start, is_ident_part, is_empty}
-use Rattle.rules.specs.Scan.{next, starts_with, run, ◌and-then◌}
+use Rattle.rules.specs.Scan.{next, starts_with, run, ◌and_then◌}
 use Rattle.rules.specs.Tables.{IntLiteral, FloatLiteral, StringLiteral, CharLiteral, Ident, StringInterpStart, DocComment, Error, KEYWORDS, keyword_in, lookup_keyword, Row, MARKS, THIRDS, lookup}
 use Rattle.rules.specs.Segment.{Piece, piece, Fault, Segment}
 use Rattle.rules.specs.Comments.{white_space, line_comment, block_comment}

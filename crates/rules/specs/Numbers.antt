@@ -2,7 +2,7 @@
 use Rattle.std.specs.Prelude.{Bool, true, false, ◌&&◌, ◌||◌, List, [], ◌∷◌, ◌++◌, ℕ}
 use Rattle.characters.specs.Choice.{if◌then◌else◌, ◌is◌}
 use Rattle.rules.specs.Text.{Char, Text, ch, text, one_of, is_digit, is_hex_digit, is_empty}
-use Rattle.rules.specs.Scan.{next, Part, nothing, takes, run, one_char, ◌and-then◌}
+use Rattle.rules.specs.Scan.{next, Part, nothing, takes, run, one_char, ◌and_then◌}
 use Rattle.rules.specs.Tables.{IntLiteral, FloatLiteral}
 use Rattle.rules.specs.Segment.{Segment, whole_token}
 

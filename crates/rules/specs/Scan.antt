@@ -36,8 +36,8 @@ one_char p [] = nothing []
 one_char p (c ∷ cs) = if p c then takes c (nothing cs) else nothing (c ∷ cs)
 
 -- What `f` takes, and then what `g` takes of what `f` leaves.
-infixr 20 ◌and-then◌
-abbrev pub ◌and-then◌ : (Text → Part) → (Text → Part) → Text → Part
+infixr 20 ◌and_then◌
+abbrev pub ◌and_then◌ : (Text → Part) → (Text → Part) → Text → Part
 (f and_then g) cs =
     let a = f cs in
     let b = g a.left in

@@ -2,7 +2,7 @@
 -- A quoted text stands for its characters: `text "val"` is the list 118, 97, 108, and `ch "a"` is 97.
 use Rattle.std.specs.Prelude.{Bool, true, false, ◌&&◌, ◌||◌, List, [], ◌∷◌, ℕ, ◌-◌}
 use Prim.Native.Char.{Char as Letter, code}
-use Prim.Native.String.{String, [] as no-letter, ◌∷◌ as ◌letter-then◌}
+use Prim.Native.String.{String, [] as no_letter, ◌∷◌ as ◌letter_then◌}
 use Rattle.characters.specs.Choice.{if◌then◌else◌, ◌is◌, within}
 
 abbrev pub Char : Type 0
@@ -15,8 +15,8 @@ abbrev pub ch : Letter → Char
 ch c = code c
 
 abbrev pub text : String → Text
-text no-letter = []
-text (c letter-then s) = code c ∷ text s
+text no_letter = []
+text (c letter_then s) = code c ∷ text s
 
 -- The line feed.
 abbrev pub LF : Char

@@ -1,12 +1,12 @@
 -- The fixed spellings (document 01, "Records"): the literal with which lexer.rs makes each kind that carries no text of its own.
 use Rattle.std.specs.Prelude.{ℕ, ◌-◌, List, [], ◌∷◌, ◌++◌, map, length, get_or, replicate}
 use Prim.Native.Char.{code}
-use Prim.Native.String.{String, [] as no-letter, ◌∷◌ as ◌letter-then◌}
+use Prim.Native.String.{String, [] as no_letter, ◌∷◌ as ◌letter_then◌}
 
 -- The bytes of a quoted text of ASCII characters.
 abbrev pub ascii : String → List ℕ
-ascii no-letter = []
-ascii (c letter-then s) = code c ∷ ascii s
+ascii no_letter = []
+ascii (c letter_then s) = code c ∷ ascii s
 
 -- Kind by kind, from 0 to 125. There is none for the kinds that carry a text (0 to 5, 39, 121, 123, 125), for those that the
 -- Rust never makes (58 to 61, 64 to 67, 100, 101, 120, 122) and for EOF (124).

@@ -7,7 +7,7 @@ use Prim.Native.Nat.{ℕ}
 use Rattle.characters.specs.Choice.{◌is◌, within}
 use Rattle.characters.proofs.Choice.{if_all}
 use Rattle.rules.specs.Text.{Char, Text, text, is_empty, same_text}
-use Rattle.rules.specs.Scan.{starts_with, ◌and-then◌}
+use Rattle.rules.specs.Scan.{starts_with, ◌and_then◌}
 use Rattle.rules.specs.Tables.{KEYWORDS, keyword_in, lookup_keyword, Row, MARKS, THIRDS, lookup}
 use Rattle.rules.specs.Segment.{Piece, Segment}
 use Rattle.rules.specs.Numbers.{whole_part, fraction, exponent, decimal_kind, decimal, radix, zero_then, parse_number}

@@ -1,6 +1,6 @@
 -- `encoding::is_scalar` meets its contract. Assumes nothing.
 use mathlib.Core.Path.{sym}
-use mathlib.Core.Bool.{and_true}
+use mathlib.Core.Bool.{and-true}
 use Rattle.characters.specs.Utf8.{is_scalar}
 use Rattle.characters.proofs.Choice.{within_above}
 use Rattle.characters.proofs.Widths.{scalar_low, not_surrogate}
@@ -14,4 +14,4 @@ returns-then-c-le57343 c = sym (not_surrogate _ c.if-c-lt55296.false c.if-c-le57
 
 pub returns : goal.returns
 unfolding is_scalar
-returns c = simp (within_above 0xD800 0xDFFF _ c.if-c-le57343.false, and_true)
+returns c = simp (within_above 0xD800 0xDFFF _ c.if-c-le57343.false, and-true)
