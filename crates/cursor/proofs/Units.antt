@@ -36,11 +36,17 @@ abbrev Near : List Fault → Type 0
 Near [] = Unit
 Near (f ∷ fs) = (f.from ≡ 1) × (f.to ≡ 1) × Near fs
 
+-- The error that a fault records, at one place.
+abbrev error_at : Fault → Position → TokenizeError
+error_at f at = record { kind = f.kind; span = span at at; char = f.char }
+
 errors_near : (start p : Position) (c : Char) (t u : Text) (s : Segment) (fs : List Fault) → s.chars ≡ c ∷ t → Near fs
     → faults_from start p (c ∷ (t ++ u)) (map (later_fault 1) fs) ≡ errors_of p s fs
 unfolding faults_from place_from later_from errors_of
 errors_near start p c t u s [] e h = refl
-errors_near start p c t u s (f ∷ fs) e h = rw (h.0, h.1, errors_near start p c t u s fs e h.2, e)
+errors_near start p c t u s (f ∷ fs) e h =
+    rw (h.0, h.1, errors_near start p c t u s fs e h.2)
+    (ap (λ (x : Text). error_at f (advances p (take 1 x)) ∷ errors_of p s fs) (sym e))
 
 unicode_near : (o : Option ℕ) → Near (unicode_escape 1 o).faults
 unfolding unicode_escape

@@ -9,6 +9,7 @@ use native.Mathlib.Omega.{arith}
 use Rattle.bridge.specs.Bridge.{Stops, is_plain}
 use Rattle.bridge.proofs.Plains.{Mid, mid_start, mid_char, mid_tail, mid_stop, mid_end}
 use Rattle.bridge.proofs.past_plain.Goals as goal
+use Rattle.bridge.proofs.past_plain.Goals.{then-not-is_tail, else-not-is_tail}
 
 pub loop-at-init : goal.loop-at-init
 loop-at-init c =
@@ -28,17 +29,17 @@ loop-at-smaller c = omega arith
 
 pub loop-at-preserved : goal.loop-at-preserved
 loop-at-preserved c =
-    let g = sym c.is_plain.ensures ∙ c.if-not-is_plain.false in (
-      ⊎_elim
-          (λ u.
-          subst (Mid _ _ _ (c.loop-at.at + 1)) (sym u.1)
-          (mid_char _ _ _ c.loop-at.invariant.1 _ _ c.loop-at.at c.loop-at.col c.loop-at.invariant.0 (omega arith) (sym c.is_tail.ensures ∙ not-true _ u.0.taken) g))
-          (λ u.
-          subst (Mid _ _ _ (c.loop-at.at + 1)) (sym u.1)
-          (mid_tail _ _ _ c.loop-at.invariant.1 _ _ c.loop-at.at c.loop-at.col c.loop-at.invariant.0 (omega arith) (sym c.is_tail.ensures ∙ not-false _ u.0.left)))
-          c.if-not-is_tail.branch,
-      c.loop-at.invariant.1,
-    )
+    let g = sym c.is_plain.ensures ∙ c.if-not-is_plain.false in
+    let m : Mid _ _ _ (c.loop-at.at + 1) c.if-not-is_tail.col =
+        elim c.if-not-is_tail.branch [
+          then-not-is_tail w ↦
+              subst (Mid _ _ _ (c.loop-at.at + 1)) (sym w.col-is)
+              (mid_char _ _ _ c.loop-at.invariant.1 _ _ c.loop-at.at c.loop-at.col c.loop-at.invariant.0 (omega arith) (sym c.is_tail.ensures ∙ w.if-not-is_tail.true) g)
+        | else-not-is_tail w ↦
+              subst (Mid _ _ _ (c.loop-at.at + 1)) (sym w.col-is)
+              (mid_tail _ _ _ c.loop-at.invariant.1 _ _ c.loop-at.at c.loop-at.col c.loop-at.invariant.0 (omega arith) (sym c.is_tail.ensures ∙ w.if-not-is_tail.false))
+        ] in
+    (m, c.loop-at.invariant.1)
 
 pub returns : goal.returns
 returns c =

@@ -6,7 +6,7 @@ pub returns-in-121 : goal.returns-in-121
 returns-in-121 c = sym (made_key _ c.in-121.is)
 
 pub returns-in-2-to-3 : goal.returns-in-2-to-3
-returns-in-2-to-3 c = sym (made_range _ c.if-kind-lt2.false c.in-2-to-3.if-kind-lt4-own.true)
+returns-in-2-to-3 c = sym (made_range _ c.in-2-to-3.if-kind-lt2-own.false c.in-2-to-3.if-kind-lt4-own.true)
 
 pub returns-in_default : goal.returns-in_default
 returns-in_default c = sym (made_low _ c.in_default.if-kind-lt2-own.true)
