@@ -1,6 +1,6 @@
 -- The word that begins at a place, by its class. Assumes nothing.
 use mathlib.Core.Path.{◌≡◌, refl, sym, ◌∙◌}
-use mathlib.Core.Bool.{Bool, true, false, ◌||◌, not, and_true, true≢false}
+use mathlib.Core.Bool.{Bool, true, false, ◌||◌, not, and-true, true≢false}
 use mathlib.Core.List.{List, [], ◌∷◌}
 use Prim.Native.Nat.{ℕ, ◌+◌, ◌≤◌}
 use lib.ListN.{length, get_or}
@@ -35,7 +35,7 @@ use Rattle.words.proofs.Segments.{slash_segment, dollar_segment, digit_segment, 
 starts_none : (c : ℕ) (t cs : Text) → starts_with (c ∷ []) cs ≡ false → starts_with (c ∷ t) cs ≡ false
 unfolding starts_with
 starts_none c t [] e = refl
-starts_none c t (x ∷ cs) e = rw (sym (and_true (x is c)) ∙ e)
+starts_none c t (x ∷ cs) e = rw (sym (and-true (x is c)) ∙ e)
 
 slash_plain : (cs : Text) → not (starts_with (text "/") cs || starts_with (text "*") cs) ≡ true
     → parse_slash_or_comment cs ≡ parse_mark (ch "/") cs

@@ -7,8 +7,8 @@ use Rattle.host_calls.proofs.put_answer.Goals as goal
 
 pub returns-in-Done : goal.returns-in-Done
 unfolding number_of slots_after used_values
-returns-in-Done c = let q = rw c.in-Done.is (refl, rw c.truth_of-closed.ensures) in record { value = q.0; answer_after = q.1 }
+returns-in-Done c = record { value = rw c.in-Done.is refl; answer_after = rw c.in-Done.is (rw c.truth_of-closed.ensures) }
 
 pub returns-in-Refused : goal.returns-in-Refused
 unfolding number_of slots_after
-returns-in-Refused c = let q = rw c.in-Refused.is (refl, refl) in record { value = q.0; answer_after = q.1 }
+returns-in-Refused c = record { value = rw c.in-Refused.is refl; answer_after = rw c.in-Refused.is refl }

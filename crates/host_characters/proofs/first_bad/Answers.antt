@@ -6,8 +6,8 @@ use Rattle.host_characters.proofs.first_bad.Goals as goal
 
 pub returns-in_default : goal.returns-in_default
 unfolding check_number check_figure
-returns-in_default c = let q = rw (sym c.first_bad.ensures ∙ c.in_default.is) (refl, refl) in record { value = q.0; figure_after = q.1 }
+returns-in_default c = record { value = rw (sym c.first_bad.ensures ∙ c.in_default.is) refl; figure_after = rw (sym c.first_bad.ensures ∙ c.in_default.is) refl }
 
 pub returns : goal.returns
 unfolding check_number check_figure
-returns c = let q = rw (sym c.first_bad.ensures ∙ c.in-BadAt.is) (c.bad_class.ensures, refl) in record { value = q.0; figure_after = q.1 }
+returns c = record { value = rw (sym c.first_bad.ensures ∙ c.in-BadAt.is) c.bad_class.ensures; figure_after = rw (sym c.first_bad.ensures ∙ c.in-BadAt.is) refl }

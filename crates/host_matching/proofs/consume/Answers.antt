@@ -13,7 +13,7 @@ use Rattle.host_matching.proofs.consume.Goals as goal
 pub returns-then-not-is_kind : goal.returns-then-not-is_kind
 unfolding number_of slots_after
 returns-then-not-is_kind c =
-    let q = rw (consume_unknown _ c.args.place c.args.kind (sym c.is_kind.ensures ∙ c.if-not-is_kind.true)) (refl, refl) in record { value = q.0; answer_after = q.1 }
+    record { value = rw (consume_unknown _ c.args.place c.args.kind (sym c.is_kind.ensures ∙ c.if-not-is_kind.true)) refl; answer_after = rw (consume_unknown _ c.args.place c.args.kind (sym c.is_kind.ensures ∙ c.if-not-is_kind.true)) refl }
 
 pub overflow_cast-kind : goal.overflow_cast-kind
 overflow_cast-kind c =
@@ -22,8 +22,8 @@ overflow_cast-kind c =
 
 pub returns-in-Got : goal.returns-in-Got
 unfolding number_of slots_after record_values token_values consumed_values
-returns-in-Got c = let q = rw (sym c.consume-n.ensures ∙ ap of_consumed c.in-Got.is) (refl, rw c.truth_of-same.ensures) in record { value = q.0; answer_after = q.1 }
+returns-in-Got c = record { value = rw (sym c.consume-n.ensures ∙ ap of_consumed c.in-Got.is) refl; answer_after = rw (sym c.consume-n.ensures ∙ ap of_consumed c.in-Got.is) (rw c.truth_of-same.ensures) }
 
 pub returns-in-Refused : goal.returns-in-Refused
 unfolding number_of slots_after
-returns-in-Refused c = let q = rw (sym c.consume-n.ensures ∙ ap of_consumed c.in-Refused.is) (refl, refl) in record { value = q.0; answer_after = q.1 }
+returns-in-Refused c = record { value = rw (sym c.consume-n.ensures ∙ ap of_consumed c.in-Refused.is) refl; answer_after = rw (sym c.consume-n.ensures ∙ ap of_consumed c.in-Refused.is) refl }

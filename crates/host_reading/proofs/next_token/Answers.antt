@@ -8,8 +8,8 @@ use Rattle.host_reading.proofs.next_token.Goals as goal
 
 pub returns-in-Got : goal.returns-in-Got
 unfolding number_of slots_after record_values token_values
-returns-in-Got c = let q = rw (sym c.next_token-n.ensures ∙ ap of_next c.in-Got.is) (refl, refl) in record { value = q.0; answer_after = q.1 }
+returns-in-Got c = record { value = rw (sym c.next_token-n.ensures ∙ ap of_next c.in-Got.is) refl; answer_after = rw (sym c.next_token-n.ensures ∙ ap of_next c.in-Got.is) refl }
 
 pub returns-in-Refused : goal.returns-in-Refused
 unfolding number_of slots_after
-returns-in-Refused c = let q = rw (sym c.next_token-n.ensures ∙ ap of_next c.in-Refused.is) (refl, refl) in record { value = q.0; answer_after = q.1 }
+returns-in-Refused c = record { value = rw (sym c.next_token-n.ensures ∙ ap of_next c.in-Refused.is) refl; answer_after = rw (sym c.next_token-n.ensures ∙ ap of_next c.in-Refused.is) refl }

@@ -6,7 +6,7 @@ use native.Mathlib.Omega.{arith}
 use Rattle.listing_fields.proofs.put_field.Goals as goal
 
 pub put_word-requires : goal.put_word-requires
-put_word-requires c = let q = omega (arith, few_digits _ _ c.ranges.x.fits c.decimal-n.ensures.len, c.decimal-n.ensures.in_bounds, c.put_byte-p.ensures, field_some c.args.x) in record { word_len_bound = q.0; at_bound = q.1 }
+put_word-requires c = record { word_len_bound = omega (arith, few_digits _ _ c.ranges.x.fits c.decimal-n.ensures.len, c.decimal-n.ensures.in_bounds, c.put_byte-p.ensures, field_some c.args.x); at_bound = omega (arith, few_digits _ _ c.ranges.x.fits c.decimal-n.ensures.len, c.decimal-n.ensures.in_bounds, c.put_byte-p.ensures, field_some c.args.x) }
 
 pub returns : goal.returns
 returns c = field_put _ _ _ _ _ _ _ _ _ c.ranges.x.fits c.decimal-n.ensures.len c.decimal-n.ensures.1.1 c.put_byte-p.ensures c.put_word.ensures

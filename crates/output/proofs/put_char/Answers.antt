@@ -10,7 +10,7 @@ pub overflow_add-at : goal.overflow_add-at
 overflow_add-at c = omega (arith, width_bounds c.args.c)
 
 pub put_char-requires : goal.put_char-requires
-put_char-requires c = let q = omega arith in record { c_bound = q.0; c_in_bounds = q.1 }
+put_char-requires c = record { c_bound = omega arith; c_in_bounds = omega arith }
 
 pub returns-then-at-n : goal.returns-then-at-n
 returns-then-at-n c = whole_put _ _ _ _ _ _ (char_length _) c.put_char.ensures.0 c.put_char.ensures.1
@@ -22,10 +22,10 @@ pub returns-then-buf-at : goal.returns-then-buf-at
 returns-then-buf-at c = none_put _ _ _ _ (char_length _ ∙ sym c.width_of-n.ensures) c.if-buf-at.true
 
 pub put_char-requires-2 : goal.put_char-requires-2
-put_char-requires-2 c = let q = omega (arith, width_bounds c.args.c) in record { c_bound = q.0; c_in_bounds = q.1 }
+put_char-requires-2 c = record { c_bound = omega (arith, width_bounds c.args.c); c_in_bounds = omega (arith, width_bounds c.args.c) }
 
 pub put_part-requires : goal.put_part-requires
-put_part-requires c = let q = omega (arith, width_bounds c.args.c) in record { from_le_to = q.0; to_in_bounds = q.1.0; to_bound = q.1.1.0; at_bound = q.1.1.1 }
+put_part-requires c = record { from_le_to = omega (arith, width_bounds c.args.c); to_in_bounds = omega (arith, width_bounds c.args.c); to_bound = omega (arith, width_bounds c.args.c); at_bound = omega (arith, width_bounds c.args.c) }
 
 pub returns : goal.returns
 returns c =

@@ -23,7 +23,7 @@ pub put_token-requires-2 : goal.put_token-requires-2
 put_token-requires-2 c = omega (arith, record_bounds c.args.kind)
 
 pub put_part-requires : goal.put_part-requires
-put_part-requires c = let q = omega (arith, record_bounds c.args.kind) in record { from_le_to = q.0; to_in_bounds = q.1.0; to_bound = q.1.1.0; at_bound = q.1.1.1 }
+put_part-requires c = record { from_le_to = omega (arith, record_bounds c.args.kind); to_in_bounds = omega (arith, record_bounds c.args.kind); to_bound = omega (arith, record_bounds c.args.kind); at_bound = omega (arith, record_bounds c.args.kind) }
 
 pub returns : goal.returns
 returns c =

@@ -17,5 +17,5 @@ returns-then-is_inside c =
 
 pub returns : goal.returns
 returns c =
-    let e = sym c.is-inside.ensures ∙ c.if1.false in
+    let e = sym c.is_inside.ensures ∙ c.if-is_inside.false in
     record { result_value = part_none _ _ _ e; ref_ptr_value = place_none _ _ _ _ e }

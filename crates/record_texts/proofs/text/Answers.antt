@@ -6,7 +6,7 @@ use Rattle.record_texts.proofs.text.Goals as goal
 
 pub returns-then-not-is_whole : goal.returns-then-not-is_whole
 returns-then-not-is_whole c =
-    let w = sym c.is_whole.ensures ∙ not-true _ c.if1.true in
+    let w = sym c.is_whole.ensures ∙ c.if-not-is_whole.true in
     record { result_value = text_none _ _ _ _ w; ref_ptr_value = text_none_place _ _ _ _ w _ _ }
 
 pub record_at-r-requires : goal.record_at-r-requires
@@ -14,9 +14,9 @@ record_at-r-requires c = (sym c.is_whole.ensures ∙ c.if-not-is_whole.false)
 
 pub returns-then-not-has_text : goal.returns-then-not-has_text
 returns-then-not-has_text c =
-    let w = sym c.is_whole.ensures ∙ not-false _ c.if1.false in
-    let t = sym c.has-text.ensures ∙ not-true _ c.if2.true in
-    record { result_value = text_fixed _ _ _ _ _ w c.record-at.ensures t; ref_ptr_value = text_fixed_place _ _ _ _ _ w c.record-at.ensures _ _ t }
+    let w = sym c.is_whole.ensures ∙ c.if-not-is_whole.false in
+    let t = sym c.has_text.ensures ∙ c.if-not-has_text.true in
+    record { result_value = text_fixed _ _ _ _ _ w c.record_at-r.ensures t; ref_ptr_value = text_fixed_place _ _ _ _ _ w c.record_at-r.ensures _ _ t }
 
 pub returns : goal.returns
 returns c =
