@@ -49,7 +49,7 @@ def in_code(path):
 def declared(path, text):
     """The names that a file declares, but for the answers to the goals that Rattle makes."""
     text = re.sub(r"(?m)--.*$", "", text)
-    found = {m[1] for m in DECLARED.finditer(text) if not re.match(r"\s*tie\.|\s*\{M : Type 1\} → statement", m[2])}
+    found = {m[1] for m in DECLARED.finditer(text) if not re.match(r"\s*(?:tie|goal)\.|\s*\{M : Type 1\} → statement", m[2])}
     return found | {m[1] for m in HEAD.finditer(text)}
 
 
@@ -112,6 +112,12 @@ def comment_spans(rows, text, names=frozenset()):
     return re.sub(r"`[^`\n]+`", lambda m: re.sub(r"[\w'-]+", one, m[0]), text)
 
 
+def respelled(text, names):
+    """An edit's text as port.py spells the rest: names that it turned, projections written tight, primes."""
+    text = WORD.sub(lambda m: snake(m[0]) if snake(m[0]) in names and m[0][0].islower() else m[0], text).replace("′", "'")
+    return re.sub(r"(?<=[\w'»)]) \.(?=[a-z])", ".", text)
+
+
 def main(argv):
     sources = {p: read(p) for p in files(".antt") if in_code(p)}
     rows = table(sources)
@@ -128,6 +134,8 @@ def main(argv):
             new = comment_spans(rows, old, names)
         else:
             new = comment_spans(rows, turned(rows, old), names)
+            if path.endswith(".edit"):
+                new = respelled(new, names)
         if new != old:
             count += 1
             if "--check" not in argv:

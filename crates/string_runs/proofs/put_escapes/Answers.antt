@@ -9,7 +9,7 @@ use Rattle.string_runs.proofs.put_escapes.Goals as goal
 
 pub loop-at-init : goal.loop-at-init
 loop-at-init c =
-    (wrote_start c.args.text.now c.args.p c.args.texts.now c.args.used-texts c.requires.within, c.requires.used_texts_bound)
+    (wrote_start c.args.text.now c.args.p c.args.texts.now c.args.used_texts c.requires.within, c.requires.used_texts_bound)
 
 pub short_escape-v-requires : goal.short_escape-v-requires
 short_escape-v-requires c = (wrote_few _ _ _ _ _ _ _ c.loop-at.invariant.0).1

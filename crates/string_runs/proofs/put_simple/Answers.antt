@@ -8,7 +8,7 @@ use Rattle.string_runs.proofs.put_simple.Goals as goal
 
 pub loop-at-init : goal.loop-at-init
 loop-at-init c =
-    (wrote_start c.args.text.now c.args.p c.args.texts.now c.args.used-texts c.requires.within, c.requires.used_texts_bound)
+    (wrote_start c.args.text.now c.args.p c.args.texts.now c.args.used_texts c.requires.within, c.requires.used_texts_bound)
 
 pub past_plain-q-requires : goal.past_plain-q-requires
 past_plain-q-requires c =

@@ -11,7 +11,7 @@ use Rattle.string_runs.proofs.run_units.Goals as goal
 
 pub loop-u-init : goal.loop-u-init
 loop-u-init c =
-    sofar_start c.args.text.now c.args.p c.args.texts.now c.args.errors.now c.args.used-texts c.args.used-errors c.requires.within c.requires.room
+    sofar_start c.args.text.now c.args.p c.args.texts.now c.args.errors.now c.args.used_texts c.args.used_errors c.requires.within c.requires.room
 
 pub put_simple-w-requires : goal.put_simple-w-requires
 put_simple-w-requires c =
