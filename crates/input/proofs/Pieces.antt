@@ -1,17 +1,10 @@
--- Laws of `piece_of`: what each test of `piece_of` says, and where a piece lies. `z` is an answer of C's `read`, `of_z w64 z` the bits that
--- hold it, and `y` the number that they are read back as. Assumes nothing.
-use mathlib.Core.Path.{◌≡◌, refl, sym, ap, subst, ◌∙◌}
-use mathlib.Core.Bool.{true, false, true≢false}
-use Prim.Native.Nat.{ℕ, zero, suc, ◌+◌, ◌-◌, ◌≤◌, ◌<◌}
-use mathlib.Core.List.{List}
+-- Laws of `piece_of`: what each test of an answer says, and where a piece lies. `z` is the answer, and `y` the number that its bits are
+-- read back as. Assumes nothing.
+use Rattle.std.proofs.Common.{◌≡◌, refl, sym, ap, subst, ◌∙◌, ℕ, zero, suc, ◌+◌, ◌<◌, true, false, arith, ℤ, pos, of_z, w64}
+use mathlib.Core.Bool.{true≢false}
 use lib.Dec.{T, ltb→lt}
-use lib.IntN.{ℤ, pos, negsuc}
-use lib.ListN.{length}
+use lib.IntN.{negsuc}
 use lib.Signed.{lt_z}
-use mir.Val.{of_z}
-use mir.Syntax.{w64}
-use borrow.Rule.Slice.PartMut.{mid_of, mid_len}
-use native.Mathlib.Omega.{arith}
 use Rattle.io.specs.Counts.{clamp_len}
 use Rattle.input.specs.Input.{piece_of, PieceWithin}
 use Rattle.input.specs.declared.Piece.{Piece}
@@ -41,24 +34,11 @@ bytes_piece (pos (suc k)) y room n q e o g = ap piece.Bytes (g ∙ ap (λ (x : �
 bytes_piece (negsuc k) y room n q e o g = absurd (true≢false (ap (λ (x : ℤ). lt_z x (pos 0)) (sym q) ∙ e))
 
 -- A piece that was read into the rest of a buffer lies within the buffer.
-rest_within_lem : (z : ℤ) (at room size : ℕ) → 0 < room → at + room ≡ size → PieceWithin (piece_of z room) at size
+rest_within : (z : ℤ) (at room size : ℕ) → 0 < room → at + room ≡ size → PieceWithin (piece_of z room) at size
 unfolding piece_of
-rest_within_lem (pos zero) at room size h e = tt
-rest_within_lem (pos (suc k)) at room size h e = (omega arith, omega arith)
-rest_within_lem (negsuc k) at room size h e = tt
+rest_within (pos zero) at room size h e = tt
+rest_within (pos (suc k)) at room size h e = (omega arith, omega arith)
+rest_within (negsuc k) at room size h e = tt
 
--- What was read into the bytes of a buffer from a place on, `room` of them, lies within the buffer, which keeps its size.
-pub piece_within :
-    (xs : List ℕ) (at room size : ℕ) (z : ℤ) (p : Piece) →
-    at < length xs →
-    room ≡ length (mid_of at (length xs - at) xs) →
-    size ≡ length xs →
-    p ≡ piece_of z room →
-    PieceWithin p at size
-piece_within xs at room size z p h l k e =
-    let m = mid_len at (length xs) xs (omega arith) in
-    subst (λ (q : Piece). PieceWithin q at size) (sym e) (rest_within_lem z at room size (omega arith) (omega arith))
-
--- The same, of a piece that is bytes.
-pub bytes_within : (p : Piece) (at n size : ℕ) → p ≡ piece.Bytes n → PieceWithin p at size → (0 < n) × (at + n ≤ size)
-bytes_within p at n size e w = subst (λ (q : Piece). PieceWithin q at size) e w
+pub piece_within : (z : ℤ) (at room size : ℕ) (p : Piece) → 0 < room → at + room ≡ size → p ≡ piece_of z room → PieceWithin p at size
+piece_within z at room size p h e q = subst (λ (x : Piece). PieceWithin x at size) (sym q) (rest_within z at room size h e)

@@ -1,11 +1,15 @@
 -- What the reads of an input give. Which bytes they put into the buffer no contract can say.
-use Rattle.std.specs.Prelude.{ℕ, zero, suc, ◌+◌, ◌≤◌, ◌<◌, min, List, ℤ, pos, negsuc, length}
+use Rattle.std.specs.Prelude.{ℕ, zero, suc, ◌+◌, ◌≤◌, ◌<◌, min, List, ℤ, pos, negsuc, length, Result, MatchResult, ◌≡◌}
 use Rattle.input.specs.declared.Piece.{Piece}
 use Rattle.input.specs.declared.Piece.TheVariants as piece
 use Rattle.input.specs.declared.Input.{Input}
 use Rattle.input.specs.declared.Input.TheVariants as input
 
--- What an answer of C's `read` into a buffer of so many bytes means: only 0 is the end of the input, and only a negative number is a
+-- What a reader answered, as a number: so many bytes, or -1 for a read that failed.
+abbrev pub IsAnswer : {E : Type 0} → ℤ → Result ℕ E → Type 0
+IsAnswer z got = MatchResult got (λ n. z ≡ pos n) (λ _. z ≡ negsuc 0)
+
+-- What an answer of a read into a buffer of so many bytes means: only 0 is the end of the input, and only a negative number is a
 -- read that failed.
 unfoldable pub piece_of : ℤ → ℕ → Piece
 piece_of (pos zero) room = piece.End

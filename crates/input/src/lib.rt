@@ -2,7 +2,10 @@
 #![tactic(auto)]
 
 ghost use Rattle.std.specs.Prelude.{◌≡◌, ◌<◌, length, take};
-ghost use Rattle.input.specs.Input.{piece_of, PieceWithin, InputWithin};
+ghost use Rattle.input.specs.Input.{IsAnswer, piece_of, PieceWithin, InputWithin};
+ghost use Rattle.std.specs.Io.{ReadsAtMost};
+
+use std::io::Read;
 
 // What one read gave.
 #[derive(Clone, Copy)]
@@ -21,7 +24,7 @@ pub enum Input {
     Failed,
 }
 
-// What an answer of C's `read` into a buffer means.
+// What an answer of a read into a buffer means.
 fn piece_of(got: isize, buf: &[u8]) -> Piece
     ensures { result ≡ piece_of got (length buf.now) }
 {
@@ -34,24 +37,36 @@ fn piece_of(got: isize, buf: &[u8]) -> Piece
     Piece::Bytes(io::count(got, buf))
 }
 
+// What a reader answered to a read into a buffer, as a number: how many bytes it gave, or -1 if it failed.
+fn answer_of(got: std::io::Result<usize>, buf: &[u8]) -> isize
+    requires { ReadsAtMost got buf.now }
+    ensures { IsAnswer result got }
+{
+    match got {
+        Ok(n) => n as isize,
+        Err(_) => -1,
+    }
+}
+
 // One read into the buffer from a place on. What stands before the place keeps.
-fn read_piece(fd: i32, buf: &mut [u8], at: usize) -> Piece
+fn read_piece<R: Read>(reader: &mut R, buf: &mut [u8], at: usize) -> Piece
     requires { at < length buf.old }
     ensures piece_within { PieceWithin result at (length buf.new) }
     ensures buf_unchanged { take at buf.new ≡ take at buf.old }
 {
     let rest = &mut buf[at..];
-    let got = libc::read(fd, rest);
+    let answer = reader.read(rest);
+    let got = answer_of(answer, rest);
     piece_of(got, rest)
 }
 
 // Reads until the buffer is full, the input ends or a read fails.
-pub fn read_input(fd: i32, buf: &mut [u8]) -> Input
+pub fn read_input<R: Read>(reader: &mut R, buf: &mut [u8]) -> Input
     ensures { InputWithin result buf.new }
 {
     let mut n = 0;
     while n < buf.len() {
-        let p = read_piece(fd, buf, n);
+        let p = read_piece(reader, buf, n);
         match p {
             Piece::Bytes(more) => n += more,
             Piece::End => return Input::Read(n),

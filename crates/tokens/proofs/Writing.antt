@@ -1,16 +1,9 @@
 -- Laws of `written`: what is handed out for each answer of the reads. Assumes nothing.
-use mathlib.Core.Path.{◌≡◌, subst, ap}
-use Prim.Native.Nat.{ℕ, ◌≤◌}
-use mathlib.Core.List.{List, []}
-use lib.ListN.{length, take}
-use Rattle.input.specs.Input.{InputWithin}
+use Rattle.std.proofs.Common.{◌≡◌, ap, ℕ, List, [], take}
 use Rattle.input.specs.declared.Input.{Input}
 use Rattle.input.specs.declared.Input.TheVariants as input
 use Rattle.listing.specs.Listing.{listing}
 use Rattle.tokens.specs.Written.{written}
-
-pub read_within : (got : Input) (n : ℕ) (bytes : List ℕ) → got ≡ input.Read n → InputWithin got bytes → n ≤ length bytes
-read_within got n bytes e w = subst (λ (g : Input). InputWithin g bytes) e w
 
 pub written_read : (got : Input) (n : ℕ) (bytes : List ℕ) → got ≡ input.Read n → written got bytes ≡ listing (take n bytes)
 unfolding written

@@ -7,7 +7,8 @@ ghost use Rattle.listing.specs.Listing.{LONGEST};
 ghost use Rattle.tokens.specs.Written.{written};
 
 use input::Input;
-use libc::{STDIN_FILENO, STDOUT_FILENO};
+use std::io;
+use std::io::Write;
 
 // Room for the longest listing. The contract gives only the length.
 fn listing_buffer() -> [u8; listing::LONGEST]
@@ -29,12 +30,12 @@ fn listed<'a>(buf: &[u8], got: Input, out: &'a mut [u8]) -> &'a mut [u8]
     &mut out[..k]
 }
 
-// One byte more than a script may have is read, so that a longer input is told from one that fits. Nothing can tell a write that fails:
-// a program has no exit status.
-fn main() {
+// One byte more than a script may have is read, so that a longer input is told from one that fits. A write that fails is the program's
+// error.
+fn main(rt: HostRuntime) -> io::Result<()> {
     let mut buf = [0u8; listing::LISTED + 1];
-    let got = input::read_input(STDIN_FILENO, &mut buf);
+    let got = input::read_input(&mut rt.stdin(), &mut buf);
     let mut out = listing_buffer();
     let lines = listed(&buf, got, &mut out);
-    io::write_all(STDOUT_FILENO, lines);
+    rt.stdout().write_all(lines)
 }

@@ -1,0 +1,9 @@
+-- The bytes so far lie within the buffer.
+use Rattle.std.proofs.Common.{length, ◌-◌, ◌≤◌}
+use Rattle.input.proofs.read_input.Given as goal
+
+abbrev pub invariant-loop-n : goal.invariant-loop-n
+invariant-loop-n g l = l.n ≤ length l.buf
+
+abbrev pub decreases-loop-n : goal.decreases-loop-n
+decreases-loop-n g l = length l.initial.buf - l.n
