@@ -1,5 +1,6 @@
--- What the reads of an input give. Which bytes they put into the buffer no contract can say.
-use Rattle.std.specs.Prelude.{ℕ, zero, suc, ◌+◌, ◌≤◌, ◌<◌, min, List, ℤ, pos, negsuc, length, Result, MatchResult, ◌≡◌}
+-- What the reads of an input give. Which bytes they put into the buffer is known of a reader whose type says what it has left.
+use Rattle.std.specs.Prelude.{ℕ, zero, suc, ◌+◌, ◌≤◌, ◌<◌, min, List, [], ℤ, pos, negsuc, length, take, drop, Option, Result, MatchResult, ◌≡◌}
+use Rattle.std.specs.Io.KnownBytes.{Consumes, IsAtEnd}
 use Rattle.input.specs.declared.Piece.{Piece}
 use Rattle.input.specs.declared.Piece.TheVariants as piece
 use Rattle.input.specs.declared.Input.{Input}
@@ -26,3 +27,16 @@ PieceWithin piece.Failed at size = Unit {0}
 abbrev pub InputWithin : Input → List ℕ → Type 0
 InputWithin (input.Read n) bytes = n ≤ length bytes
 InputWithin input.Failed bytes = Unit {0}
+
+-- A piece that was read from a place on is what the reader lost, which is nothing where there is no piece. `End` stands only where the
+-- reader has nothing left.
+abbrev pub PieceTaken : Option (List ℕ) → Option (List ℕ) → Piece → ℕ → List ℕ → Type 0
+PieceTaken old new (piece.Bytes n) at bytes = Consumes old new (take n (drop at bytes))
+PieceTaken old new piece.End at bytes = Consumes old new [] × IsAtEnd new
+PieceTaken old new piece.Failed at bytes = Consumes old new []
+
+-- The bytes at the front are what the reader lost, in its order. It has nothing left where they do not fill the buffer, unless a read
+-- failed: then some bytes at the front are what it lost before.
+abbrev pub InputTaken : Option (List ℕ) → Option (List ℕ) → Input → List ℕ → Type 0
+InputTaken old new (input.Read n) bytes = Consumes old new (take n bytes) × (n < length bytes → IsAtEnd new)
+InputTaken old new input.Failed bytes = (n : ℕ) × Consumes old new (take n bytes)

@@ -2,7 +2,7 @@
 #![tactic(auto)]
 
 ghost use Rattle.std.specs.Prelude.{◌≡◌, ◌<◌, length, take};
-ghost use Rattle.input.specs.Input.{IsAnswer, piece_of, PieceWithin, InputWithin};
+ghost use Rattle.input.specs.Input.{IsAnswer, piece_of, PieceWithin, PieceTaken, InputWithin, InputTaken};
 ghost use Rattle.std.specs.Io.{ReadsAtMost};
 
 use std::io::Read;
@@ -53,6 +53,7 @@ fn read_piece<R: Read>(reader: &mut R, buf: &mut [u8], at: usize) -> Piece
     requires { at < length buf.old }
     ensures piece_within { PieceWithin result at (length buf.new) }
     ensures buf_unchanged { take at buf.new ≡ take at buf.old }
+    ensures taken { PieceTaken (R.remaining reader.old) (R.remaining reader.new) result at buf.new }
 {
     let rest = &mut buf[at..];
     let answer = reader.read(rest);
@@ -62,7 +63,8 @@ fn read_piece<R: Read>(reader: &mut R, buf: &mut [u8], at: usize) -> Piece
 
 // Reads until the buffer is full, the input ends or a read fails.
 pub fn read_input<R: Read>(reader: &mut R, buf: &mut [u8]) -> Input
-    ensures { InputWithin result buf.new }
+    ensures within { InputWithin result buf.new }
+    ensures taken { InputTaken (R.remaining reader.old) (R.remaining reader.new) result buf.new }
 {
     let mut n = 0;
     while n < buf.len() {
