@@ -1,6 +1,6 @@
 -- How long the bytes between quotes get, and a literal part by part. Assumes nothing.
 use mathlib.Core.Path.{◌≡◌, refl, sym, ◌∙◌, ap}
-use mathlib.Core.Bool.{Bool, false, ◌&&◌, ◌||◌, and_true, and-false}
+use mathlib.Core.Bool.{Bool, false, ◌&&◌, ◌||◌, and-true, and-false}
 use mathlib.Core.List.{[], ◌∷◌, ◌++◌}
 use Prim.Native.Nat.{◌*◌, ◌≤◌, zero-le}
 use native.Mathlib.Omega.{arith}
@@ -50,7 +50,7 @@ literal_false (c ∷ t) = refl
 -- A literal is written part by part; only the first that holds something stands right behind a `$name`.
 pub literal_part : (nm : Bool) (a b : Text) → literal nm (a ++ b) ≡ literal nm a ++ literal (nm && is_empty a) b
 unfolding is_empty
-literal_part nm [] b = ap (λ (x : Bool). literal x b) (sym (and_true nm)) ∙ (unfold literal in refl)
+literal_part nm [] b = ap (λ (x : Bool). literal x b) (sym (and-true nm)) ∙ (unfold literal in refl)
 literal_part nm (c ∷ a) b =
     literal_append nm (c ∷ a) b refl
     ∙ ap (λ (l : Text). literal nm (c ∷ a) ++ l) (sym (ap (λ (x : Bool). literal x b) (and-false nm) ∙ literal_false b))
