@@ -10,7 +10,7 @@ ghost use Rattle.host_answers.specs.Answers.{truth};
 ghost use Rattle.host_characters.specs.Characters.{check_number, check_figure, written};
 
 pub mod calls; // calls.rt: measuring and tokenising
-pub mod printing; // printing.rt: the office print
+pub mod office_print; // office_print.rt: the office print
 pub mod reading; // reading.rt: the next token, the next error, the text check
 pub mod matching; // matching.rt: consume and match
 

@@ -172,7 +172,7 @@ module _ (s : List ℕ) (p : Position) (w : Within s p) (c : Closing) (x : PastA
         span = f;
         offset = refl;
         size = omega (arith, y.place);
-        ran-out = sym x.same;
+        ran_out = sym x.same;
         made = y;
         noted = rw past_errors d;
       }

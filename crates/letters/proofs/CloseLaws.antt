@@ -167,9 +167,9 @@ module _ (s : List ℕ) (p q : Position) (w : Within s p) (d : next (exactly 39)
             → Put noted errors' ne (error_bytes (unclosed f UnterminatedCharacter u.next u.next)) r.errors
             → CharacterAt s p texts texts' ut errors errors' ue r
         go true h e z =
-            subst (λ (m : Made). CharacterAt s p texts texts' ut errors errors' ue m) (sym (made_is r (onward u.next 1) e k.texts k.ran-out)) (closes errors' r.errors h z)
+            subst (λ (m : Made). CharacterAt s p texts texts' ut errors errors' ue m) (sym (made_is r (onward u.next 1) e k.texts k.ran_out)) (closes errors' r.errors h z)
         go false h e z =
-            subst (λ (m : Made). CharacterAt s p texts texts' ut errors errors' ue m) (sym (made_is r u.next e k.texts k.ran-out)) (misses errors' r.errors h z)
+            subst (λ (m : Made). CharacterAt s p texts texts' ut errors errors' ue m) (sym (made_is r u.next e k.texts k.ran_out)) (misses errors' r.errors h z)
 
 -- ── The closing quote ──
 
@@ -178,4 +178,4 @@ pub closed_at : (s : List ℕ) (p e : Position) (ut : ℕ) (errors errors' : Lis
     → ClosedAt s p ut errors errors' ue (record { at = e; texts = ut; errors = me; ran_out = false })
 unfolding closed
 closed_at s p e ut errors errors' ue me f h x z =
-    record { at = x ∙ ap (λ (b : Bool). if b then onward p 1 else p) h; texts = refl; written = subst (λ (b : Bool). Put errors errors' ue (error_bytes (unclosed b UnterminatedCharacter p p)) me) h z; ran-out = refl }
+    record { at = x ∙ ap (λ (b : Bool). if b then onward p 1 else p) h; texts = refl; written = subst (λ (b : Bool). Put errors errors' ue (error_bytes (unclosed b UnterminatedCharacter p p)) me) h z; ran_out = refl }

@@ -28,7 +28,9 @@ use Rattle.questions.proofs.Questions.{yes_accepted}
 use Rattle.lexer.specs.declared.Answer as code
 use Rattle.lexer.specs.declared.Answer.TheVariants.{Done, Refused}
 use Rattle.lexer.specs.Tokenize.{of_answer, ◌then◌, measure_answer, tokenize_answer, buffer_after, Tokenized}
+use Rattle.lexer.specs.Places.{places_from, Fills}
 use Rattle.lexer.proofs.Fits.{tokens_fit, tokens_ended, errors_fit}
+use Rattle.lexer.proofs.Places.{places_filled}
 
 -- ── What a yes says ──
 
@@ -126,6 +128,14 @@ module _ (s tokens texts errors : List ℕ) (u : Used) (tokens' texts' errors' :
       let e : u.errors ≡ length bytes = ap (λ (v : Used). v.errors) answers in
       rw (w.errors_after, e, take-append_seam bytes (drop (length bytes) errors))
       (errors_back (script_errors s) n (errors_fit s says.0) (omega (arith, errors_few (script_errors s), length_errors (script_errors s))))
+
+  -- The texts that the records tell fill the part used of the text buffer without gap or overlap.
+  pub texts_fill : (n : ℕ) → u.count ≤ n → Fills 0 (places_from n tokens' 0) u.texts
+  unfolding buffer_after needed
+  texts_fill n h =
+      let e : u.texts ≡ length (text_bytes (script_tokens s)) = ap (λ (v : Used). v.texts) answers in
+      rw (w.tokens_after, e)
+      (places_filled s (script_tokens s) _ n (tokens_fit s says.0) (tokens_ended s says.0) (texts_small s says.0) (count_said n h))
 
   -- Measuring the same script answers the same.
   pub measured : (r : code.Answer) → of_answer r ≡ measure_answer s → r ≡ Done u

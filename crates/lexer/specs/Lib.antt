@@ -1,2 +1,3 @@
 pub mod Tokenize
+pub mod Places
 pub mod Joining

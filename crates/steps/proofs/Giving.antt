@@ -112,8 +112,8 @@ unfolding rest_of
 rest_before es o r t fs o' x e =
     let a = ap (λ (y : Rest). y.tokens) e in
     let b = ap (λ (y : Rest). es ++ y.errors) e ∙ sym (append_assoc es fs x.errors) in
-    let c = ap (λ (y : Rest). o || y.ran-out) e ∙ or_assoc o o' x.ran-out in
-    λ i. record { tokens = a i; errors = b i; ran-out = c i }
+    let c = ap (λ (y : Rest). o || y.ran_out) e ∙ or_assoc o o' x.ran_out in
+    λ i. record { tokens = a i; errors = b i; ran_out = c i }
 
 -- The errors `es`, written at `ue`, come before what a step gives where they end. `t` says that the text ran out where either does.
 pub before_gives : (s : List ℕ) (c : cursor.Cursor) (cs : Text) (d : cursor.Cursor) (ds : Text) (es : List TokenizeError) (o : Bool)

@@ -316,7 +316,7 @@ module _ (s : List ℕ) (p start : Position) (first : Bool) (texts texts' : List
           (piece_interp (not first) start p cs (run_chars s p) (chars_at s (r.at.offset + 1)) rest (whole_before (36 ∷ chars_at s (r.at.offset + 1)) dollar_is) interp_opens h' (sym dollar_is ∙ x.reach.chars))
           ∙ (ap F (sym x.reach.moved)
           ∙ (ap (λ (u : Token). G u i.open_end (InString start e)) t
-          ∙ (ap (λ (o : Bool). G (token_of z.token i.text) o (InString start e)) (sym x.ran-out) ∙ ap (λ (c : Cursor). G (token_of z.token i.text) z.ran_out c) (sym x.next))))
+          ∙ (ap (λ (o : Bool). G (token_of z.token i.text) o (InString start e)) (sym x.ran_out) ∙ ap (λ (c : Cursor). G (token_of z.token i.text) z.ran_out c) (sym x.next))))
 
       pub at_interp : is_empty m ≡ true → r.texts ≡ ut → PieceAt s p start first texts texts'' ut errors errors' ue (piece.Token z)
       at_interp h n =

@@ -22,12 +22,12 @@ use Rattle.strings.specs.declared.Piece.TheVariants as piece
 
 -- The literal of a run, with its span from `start` to `end` and its text from the place `from` of the texts on.
 abbrev pub literal_piece : Position → Position → ℕ → Run → Cursor → Bool → ℕ → Piece
-literal_piece start end from r next ran-out errors =
+literal_piece start end from r next ran_out errors =
     piece.Token
     (record {
       token = record { kind = StringLiteral; span = span start end; offset = from; length = r.texts - from };
       next = next;
-      ran_out = ran-out;
+      ran_out = ran_out;
       texts = r.texts;
       errors = errors;
     })

@@ -19,7 +19,8 @@ use Rattle.record_reading.specs.Reading.{next_at}
 use Rattle.record_lists.specs.Lists.{TokenFits, Ended}
 use Rattle.record_lists.proofs.Back.{read_of, place_after, next_back}
 use Rattle.lexer.proofs.Fits.{fixed_not_made}
-use Rattle.text_order.specs.Order.{made_texts, places_after, place_of, place_turn, places_from}
+use Rattle.lexer.specs.Places.{place_of, place_turn, places_from}
+use Rattle.text_order.specs.Order.{made_texts, places_after}
 
 -- What is left of the records, from a place in their buffer on.
 record Left (s : List ℕ) (at used : ℕ) (ts : List Token) : Type 0 where

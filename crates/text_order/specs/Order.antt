@@ -1,16 +1,13 @@
 -- Where the texts lie in the text buffer (document 02, order 3): "Texts now lie in the order of their tokens, from byte 0, without gaps;
 -- an empty one's offset is the end of the text before it, or 0."
-use Rattle.std.specs.Prelude.{◌≡◌, ℕ, zero, suc, ◌+◌, length, take, drop}
+use Rattle.std.specs.Prelude.{◌≡◌, ℕ, ◌+◌, length, take, drop}
 use mathlib.Core.List.{List, [], ◌∷◌, ◌++◌, flatten}
-use Rattle.characters.specs.Choice.{if◌then◌else◌, ◌is◌}
+use Rattle.characters.specs.Choice.{if◌then◌else◌}
 use Rattle.rules.specs.Tokens.{Token}
-use Rattle.rules.specs.Tables.{EOF}
 use Rattle.rules.specs.Script.{script_tokens}
 use Rattle.records.specs.Kinds.{is_made}
-use Rattle.records.specs.Answers.{Answer, got, refused}
-use Rattle.records.specs.declared.answers.TokenRecord.{TokenRecord}
-use Rattle.record_reading.specs.Reading.{next_at}
 use Rattle.lexer.specs.Joining.{Call}
+use Rattle.lexer.specs.Places.{Place, places_from}
 
 -- ── Texts and places ──
 
@@ -19,11 +16,6 @@ unfoldable pub made_texts : List Token → List (List ℕ)
 made_texts [] = []
 made_texts (t ∷ ts) = if is_made t.kind then t.text ∷ made_texts ts else made_texts ts
 
--- A part of the text buffer.
-pub record Place : Type 0 where
-  pub offset : ℕ
-  pub size : ℕ
-
 -- The places of texts that lie one behind another, after so many bytes: the offset of each, an empty one too, is the sum of the lengths
 -- before it.
 unfoldable pub places_after : ℕ → List (List ℕ) → List Place
@@ -31,19 +23,6 @@ places_after before [] = []
 places_after before (text ∷ texts) = record { offset = before; size = length text } ∷ places_after (before + length text) texts
 
 -- ── What a reader meets ──
-
--- The place that a record tells, where its kind has a text in the text buffer.
-unfoldable pub place_of : TokenRecord → List Place
-place_of r = if is_made r.kind then record { offset = r.offset; size = r.length } ∷ [] else []
-
-unfoldable pub place_turn : (ℕ → List Place) → Answer TokenRecord → ℕ → List Place
-place_turn rest (got r) next = place_of r ++ (if r.kind is EOF then [] else rest next)
-place_turn rest (refused n f) next = []
-
--- The places from a record on, in so many turns of a reader at most. EOF is the last record.
-unfoldable pub places_from : ℕ → List ℕ → ℕ → List Place
-places_from zero s at = []
-places_from (suc turns) s at = place_turn (places_from turns s) (next_at s at).answer (next_at s at).place
 
 abbrev pub places_met : Call → List Place
 places_met k = places_from k.used.count k.tokens_after 0

@@ -9,4 +9,4 @@ pub put_word-requires : goal.put_word-requires
 put_word-requires c = record { word_len_bound = omega (arith, few_digits _ _ c.ranges.x.fits c.decimal-n.ensures.len, c.decimal-n.ensures.in_bounds, c.put_byte-p.ensures, field_some c.args.x); at_bound = omega (arith, few_digits _ _ c.ranges.x.fits c.decimal-n.ensures.len, c.decimal-n.ensures.in_bounds, c.put_byte-p.ensures, field_some c.args.x) }
 
 pub returns : goal.returns
-returns c = field_put _ _ _ _ _ _ _ _ _ c.ranges.x.fits c.decimal-n.ensures.len (c.decimal-n.ensures.digits, c.decimal-n.ensures.rest) c.put_byte-p.ensures c.put_word.ensures
+returns c = field_put _ _ _ _ _ _ _ _ _ c.ranges.x.fits c.decimal-n.ensures.len c.decimal-n.ensures.digits c.put_byte-p.ensures c.put_word.ensures

@@ -8,10 +8,10 @@ pub overflow_add-end : goal.overflow_add-end
 overflow_add-end c = omega (arith, row_end _ _ c.spelling-row.ensures)
 
 pub slice_bounds-put_token-end : goal.slice_bounds-put_token-end
-slice_bounds-put_token-end c = omega (arith, row_end _ _ c.spelling.ensures)
+slice_bounds-put_token-end c = omega (arith, row_end _ _ c.spelling-row.ensures)
 
 pub put_token-requires : goal.put_token-requires
-put_token-requires c = rw (row_word _ _ c.spelling.ensures) c.requires
+put_token-requires c = rw (row_word _ _ c.spelling-row.ensures) c.requires
 
 pub returns : goal.returns
-returns c = rw (← row_word _ _ c.spelling.ensures) c.put_token.ensures
+returns c = rw (← row_word _ _ c.spelling-row.ensures) c.put_token.ensures

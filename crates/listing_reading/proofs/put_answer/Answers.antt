@@ -11,17 +11,14 @@ pub put_tokens-p-requires : goal.put_tokens-p-requires
 unfolding lines_read
 put_tokens-p-requires c = room_front _ _ _ (room_front _ _ _ c.requires.room)
 
-pub slice_bounds-put_errors-end : goal.slice_bounds-put_errors-end
-slice_bounds-put_errors-end c = sym (length-take-le _ _ c.requires.errors_in_bounds)
-
 pub put_errors-q-requires : goal.put_errors-q-requires
 unfolding lines_read
-put_errors-q-requires c = room_then _ _ _ _ _ _ (room_front _ _ _ c.requires.room) c.put-tokens.ensures
+put_errors-q-requires c = room_then _ _ _ _ _ _ (room_front _ _ _ c.requires.room) c.put_tokens-p.ensures
 
 pub put_closed-requires : goal.put_closed-requires
 unfolding lines_read
-put_closed-requires c = room_then _ _ _ _ _ _ c.requires.room (put_then _ _ _ _ _ _ _ _ c.put-tokens.ensures c.put_errors-q.ensures)
+put_closed-requires c = room_then _ _ _ _ _ _ c.requires.room (put_then _ _ _ _ _ _ _ _ c.put_tokens-p.ensures c.put_errors-q.ensures)
 
 pub returns : goal.returns
 unfolding lines_read
-returns c = put_then _ _ _ _ _ _ _ _ (put_then _ _ _ _ _ _ _ _ c.put-tokens.ensures c.put_errors-q.ensures) c.put_closed.ensures
+returns c = put_then _ _ _ _ _ _ _ _ (put_then _ _ _ _ _ _ _ _ c.put_tokens-p.ensures c.put_errors-q.ensures) c.put_closed.ensures

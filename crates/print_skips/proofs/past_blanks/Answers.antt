@@ -16,15 +16,11 @@ pub overflow_add-at : goal.overflow_add-at
 overflow_add-at c =
     omega (arith, c.loop-class.invariant.0.within.size, c.loop-class.invariant.0.within.inside)
 
--- One byte more.
-more : (c : tie.In-loop invariant-loop decreases-loop) → Passed c.before.before.before.before.args.text.now c.before.loop.at (c.before.loop.at + 1)
-more c = let l = c.before.loop in space_passed _ l.at l.invariant.0.within (sym l.invariant.1 ∙ c.loop-test.true)
-
 pub loop-class-smaller : goal.loop-class-smaller
-loop-class-smaller c = omega (arith, (more c).within.inside)
+loop-class-smaller c = omega (arith, (space_passed _ c.loop-class.at c.loop-class.invariant.0.within (sym c.loop-class.invariant.1 ∙ c.loop-class-test.true)).within.inside)
 
 pub loop-class-preserved : goal.loop-class-preserved
-loop-class-preserved c = (passed_join _ _ _ _ c.loop-class.invariant.0 (more c), c.class_at-class-in-loop-class.ensures)
+loop-class-preserved c = (passed_join _ _ _ _ c.loop-class.invariant.0 (space_passed _ c.loop-class.at c.loop-class.invariant.0.within (sym c.loop-class.invariant.1 ∙ c.loop-class-test.true)), c.class_at-class-in-loop-class.ensures)
 
 pub returns : goal.returns
 returns c = record { passed = c.loop-class.invariant.0; class_is = c.loop-class.invariant.1; stops = c.loop-class-test.false }
