@@ -1,6 +1,6 @@
 -- The units of a string written one part after another. Assumes nothing.
 use mathlib.Core.Path.{◌≡◌, refl, sym, ap, ◌∙◌, subst}
-use mathlib.Core.Bool.{Bool, true, false, ◌&&◌, not, true≢false, and_true, and-false}
+use mathlib.Core.Bool.{Bool, true, false, ◌&&◌, not, true≢false, and-true, and-false}
 use mathlib.Core.List.{List, [], ◌∷◌, ◌++◌, append-nil}
 use Prim.Native.Nat.{ℕ, ◌+◌, ◌*◌, ◌-◌, ◌≤◌, ◌<◌}
 use native.Mathlib.Omega.{arith}
@@ -49,7 +49,7 @@ named_behind_lem s named (part.Bytes from to) (h, i) =
     sym (ap (λ (b : Bool). named && b) (some_bytes (slice from to s) (omega (arith, length-slice from to s i))) ∙ and-false named)
 named_behind_lem s named (part.Char c) h =
     sym (ap (λ (b : Bool). named && b) (some_bytes (encode_char c) (omega (arith, char_length c, width_bounds c))) ∙ and-false named)
-named_behind_lem s named part.Nothing h = sym (and_true named)
+named_behind_lem s named part.Nothing h = sym (and-true named)
 
 -- A part is written as what it is.
 pub part_put : (old new s : List ℕ) (named : Bool) (at r : ℕ) (x y : Part) → x ≡ y → Put old new at (emitted_part named s y) r
@@ -77,7 +77,7 @@ pub record Rowing (s : List ℕ) (p : Position) (named : Bool) (out₀ out : Lis
 pub row_start : (s : List ℕ) (p : Position) (named : Bool) (out : List ℕ) (at : ℕ) → Within s p → Rowing s p named out out at p at named
 unfolding literal is_empty
 row_start s p named out at w =
-    record { bytes = []; units = units_none s p w; put = put_none out at; name_is = sym (and_true named) }
+    record { bytes = []; units = units_none s p w; put = put_none out at; name_is = sym (and-true named) }
 
 module _ (s : List ℕ) (p : Position) (named : Bool) (out₀ out : List ℕ) (at : ℕ) (c : Position) (place : ℕ) (name : Bool)
     (y : Rowing s p named out₀ out at c place name) where

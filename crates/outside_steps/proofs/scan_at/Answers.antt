@@ -22,10 +22,10 @@ returns-then-class-eq-APOSTROPHE c = found_given _ _ _ _ _ _ _ _ _ c.letter_toke
 
 pub begins_word-requires : goal.begins_word-requires
 begins_word-requires c =
-    let q = (
-      class_in c.args.text.now c.args.p.offset _ c.class_at-class.ensures c.if-class-eq-OTHER.false,
-      word_class c.args.text.now c.args.p.offset _ c.class_at-class.ensures c.requires.kept c.if-class-eq-OTHER.false c.if-class-eq-QUOTE.false c.if-class-eq-APOSTROPHE.false,
-    ) in record { at_in_bounds = q.0; class_value = q.1 }
+    record {
+      at_in_bounds = class_in c.args.text.now c.args.p.offset _ c.class_at-class.ensures c.if-class-eq-OTHER.false;
+      class_value = word_class c.args.text.now c.args.p.offset _ c.class_at-class.ensures c.requires.kept c.if-class-eq-OTHER.false c.if-class-eq-QUOTE.false c.if-class-eq-APOSTROPHE.false;
+    }
 
 pub word_token-requires : goal.word_token-requires
 word_token-requires c = record { lent = c.requires.lent; in_text = c.requires.in_text; begun = record { class_is = c.class_at-class.ensures; begins = sym c.begins_word.ensures ∙ c.if-begins_word.true } }

@@ -25,10 +25,10 @@ returns-then-class-eq-APOSTROPHE c =
 
 pub begins_word-requires : goal.begins_word-requires
 begins_word-requires c =
-    let q = (
-      class_in c.args.text.now c.args.from _ c.requires.chosen.class_is c.requires.chosen.some,
-      word_class c.args.text.now c.args.from _ c.requires.chosen.class_is c.requires.chosen.kept c.requires.chosen.some c.if-class-eq-QUOTE.false c.if-class-eq-APOSTROPHE.false,
-    ) in record { at_in_bounds = q.0; class_value = q.1 }
+    record {
+      at_in_bounds = class_in c.args.text.now c.args.from _ c.requires.chosen.class_is c.requires.chosen.some;
+      class_value = word_class c.args.text.now c.args.from _ c.requires.chosen.class_is c.requires.chosen.kept c.requires.chosen.some c.if-class-eq-QUOTE.false c.if-class-eq-APOSTROPHE.false;
+    }
 
 pub put_word-requires : goal.put_word-requires
 put_word-requires c =

@@ -12,12 +12,12 @@ slice_bounds-write-end-2 c =
 
 pub shape_of-out : goal.shape_of-out
 shape_of-out c =
-    omega (arith, length-append c.write.new.1.0 (drop c.args.n c.args.out.now), length-drop c.args.n c.args.out.now, length-take-le c.args.n c.args.out.now c.requires.n_in_bounds, c.write.auto.out, c.requires.n_in_bounds)
+    omega (arith, length-append c.write.new.out (drop c.args.n c.args.out.now), length-drop c.args.n c.args.out.now, length-take-le c.args.n c.args.out.now c.requires.n_in_bounds, c.write.auto.out, c.requires.n_in_bounds)
 
 pub returns : goal.returns
 returns c =
     record {
-      front = c.write.new.1.0;
+      front = c.write.new.out;
       size = c.write.auto.out ∙ length-take-le c.args.n c.args.out.now c.requires.n_in_bounds;
       walked = c.write.ensures;
       after = refl;
