@@ -40,7 +40,7 @@ returns-then-number-eq-REFUSED_PRINT c =
 both_yes : (w : Walked) (size number : ℕ) → number ≡ refused_by w.bad (leb (suc size) w.bytes)
     → (number ≡ RefusedMistake → ⊥) → (number ≡ RefusedPrint → ⊥) → (w.bad ≡ false) × (w.bytes ≤ size)
 both_yes w size number e m p =
-    let b = by_none _ _ (λ x. m (e ∙ x)) (λ x. p (e ∙ x)) in (b.0, leb-false (suc size) w.bytes b.1)
+    let b = by_none _ _ (λ x. m (e ∙ x)) (λ x. p (e ∙ x)) in (b.0, omega (arith, leb-false (suc size) w.bytes b.1))
 
 pub write_front-requires : goal.write_front-requires
 write_front-requires c =
