@@ -8,7 +8,6 @@ use lib.ListN.{length, get_or}
 use native.Mathlib.Omega.{arith}
 use native.Mathlib.Nat.{add-zero}
 use borrow.Author.Tests.{le-leb, leb-true, ne_eqb}
-use Rattle.characters.specs.Choice.{◌is◌}
 use Rattle.characters.specs.Utf8.{is_tail, decode_at, chars_at}
 use Rattle.characters.specs.declared.Decoded.{Decoded}
 use Rattle.characters.specs.declared.Decoded.TheVariants.{Code, Bad, End}
@@ -18,7 +17,7 @@ use Rattle.characters.proofs.Decoding.{placed_code}
 use Rattle.characters.proofs.Characters.{chars_ascii, chars_past_lem}
 use Rattle.characters.proofs.Valids.{not_bad, not_end, tail_at, lead_none}
 use Rattle.spans.specs.declared.Position.{Position}
-use Rattle.rules.specs.Text.{Char, Text, LF}
+use Rattle.rules.specs.Text.{Char}
 use Rattle.rules.specs.Scan.{next, Part, run, takes}
 use Rattle.bridge.specs.Bridge.{Within, Reach, Stops, is_plain, PastRun, RunEnd}
 use Rattle.bridge.proofs.Cuts.{run_none}

@@ -11,7 +11,7 @@ use lib.Seq.{drop-drop, get_or-drop}
 use borrow.Author.Tests.{leb-true, eqb-true, eqb-false}
 use native.Mathlib.Omega.{arith}
 use Rattle.characters.specs.Choice.{within}
-use Rattle.characters.specs.Utf8.{is_tail, second_ok, code_two, code_three, code_four, two_of, three_of, four_of, sequence, first_of, decode_at, is_scalar, width, encode_char}
+use Rattle.characters.specs.Utf8.{is_tail, second_ok, two_of, three_of, four_of, sequence, first_of, decode_at, is_scalar, width, encode_char}
 use Rattle.characters.specs.declared.Decoded.{Decoded}
 use Rattle.characters.specs.declared.Decoded.TheVariants.{Code, Bad, End}
 use Rattle.characters.proofs.Choice.{if_all, and_both, le_or_lt, within_bounds, within_yes}

@@ -1,7 +1,7 @@
 -- Laws of the octets of one character. Assumes nothing.
 use mathlib.Core.Path.{◌≡◌}
 use mathlib.Core.Bool.{Bool, true}
-use Prim.Native.Nat.{ℕ, suc, ◌+◌, ◌-◌, ◌≤◌, ◌<◌}
+use Prim.Native.Nat.{ℕ, suc, ◌+◌, ◌≤◌, ◌<◌}
 use mathlib.Core.List.{List}
 use lib.ListN.{length, get_or, drop_of_length-le}
 use lib.Seq.{drop-cons, get_or-drop}

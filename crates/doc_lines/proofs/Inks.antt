@@ -1,8 +1,8 @@
 -- Walks past ASCII characters that are no white space. Assumes nothing.
 use mathlib.Core.Path.{◌≡◌, refl, sym, ◌∙◌, ap, subst}
 use mathlib.Core.Bool.{Bool, true, false, true≢false, and-false}
-use mathlib.Core.List.{List, []}
-use mathlib.Core.Logic.{◌⊎◌, ⊎_elim}
+use mathlib.Core.List.{List}
+use mathlib.Core.Logic.{⊎_elim}
 use Prim.Native.Nat.{ℕ, zero, suc, ◌+◌, ◌-◌, ◌≤◌, ◌<◌}
 use native.Mathlib.Omega.{arith}
 use lib.Dec.{leb, ltb}

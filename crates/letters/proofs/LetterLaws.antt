@@ -7,7 +7,6 @@ use Prim.Native.Nat.{ℕ, ◌+◌, ◌≤◌, ◌<◌}
 use lib.ListN.{drop}
 use native.Mathlib.Omega.{arith}
 use borrow.Author.Tests.{eq-eqb, ne_eqb}
-use Rattle.characters.specs.Choice.{◌is◌}
 use Rattle.characters.specs.Utf8.{chars_at, Scalars, width, bytes}
 use Rattle.characters.proofs.Widths.{scalar_bounds}
 use Rattle.characters.proofs.Characters.{chars_at_lem}

@@ -21,7 +21,6 @@ use Rattle.rules.proofs.Sources.{Kinds, Suits, made_right, whole_right, fixed_ri
 use Rattle.rules.proofs.Faults.{names_code}
 use Rattle.rules.proofs.Fits.{tokens_low, error_spans_low, ErrorKnown, script_errors_known, TokenSourced, script_body, body_and_eof, script_tokens_sourced}
 use Rattle.spans.specs.declared.Position.{Position}
-use Rattle.spans.specs.declared.Span.{Span}
 use Rattle.records.specs.Kinds.{has_text, is_made, has_code}
 use Rattle.spellings.specs.Spelling.{spellings, spelling}
 use Rattle.record_lists.specs.Lists.{TokenFits, Ended, ErrorFits}

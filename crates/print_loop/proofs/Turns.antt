@@ -2,22 +2,22 @@
 use mathlib.Core.Path.{◌≡◌, refl, sym, ap, ◌∙◌, subst}
 use mathlib.Core.Bool.{Bool, true, false}
 use mathlib.Core.List.{List, [], ◌∷◌, ◌++◌, append_assoc}
-use Prim.Native.Nat.{ℕ, ◌+◌, ◌*◌, ◌-◌, ◌≤◌, ◌<◌}
+use Prim.Native.Nat.{ℕ, ◌≤◌}
 use native.Mathlib.Omega.{arith}
-use lib.ListN.{length, get_or}
+use lib.ListN.{length}
 use Rattle.characters.specs.Utf8.{chars_at}
 use Rattle.rules.specs.Text.{Text, Char}
 use Rattle.rules.specs.Scan.{next}
 use Rattle.rules.specs.Tokens.{TokenizeError}
 use Rattle.rules.specs.Segment.{Segment}
 use Rattle.rules.specs.Marks.{unexpected}
-use Rattle.rules.specs.Lexer.{segment, errors_of, Lexed, after, behind, lex}
+use Rattle.rules.specs.Lexer.{segment, errors_of, Lexed, after, lex}
 use Rattle.rules.proofs.Front.{segment_takes}
 use Rattle.cursor.specs.Cursor.{left}
 use Rattle.cursor.specs.declared.Cursor.TheVariants.{Outside}
 use Rattle.cursor.proofs.Inside.{lex_step}
 use Rattle.cursor.proofs.Steps.{left_end}
-use Rattle.bridge.specs.Bridge.{placed, Within}
+use Rattle.bridge.specs.Bridge.{placed}
 use Rattle.multiline.specs.Tokens.{begins_nothing}
 use Rattle.multiline.proofs.BeginsNothing.{unexpected_segment}
 use Rattle.skipping.proofs.Stops.{kept_white}

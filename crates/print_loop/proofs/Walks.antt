@@ -1,20 +1,18 @@
 -- A print's loop between two turns. Assumes nothing.
-use mathlib.Core.Path.{◌≡◌, refl, sym, ap, ◌∙◌, subst}
+use mathlib.Core.Path.{◌≡◌, refl, sym, ◌∙◌, subst}
 use mathlib.Core.Bool.{Bool, true, false, true≢false}
-use mathlib.Core.List.{List, [], ◌∷◌, ◌++◌, map}
+use mathlib.Core.List.{List, [], ◌∷◌}
 use Prim.Native.Nat.{ℕ, ◌+◌, ◌*◌, ◌-◌, ◌≤◌, ◌<◌}
 use native.Mathlib.Omega.{arith}
 use lib.ListN.{length}
-use lib.Seq.{sets}
 use Rattle.characters.specs.Utf8.{chars_at, chars_of}
 use Rattle.byte_order_mark.specs.Mark.{after_mark}
 use Rattle.rules.specs.Tokens.{TokenizeError}
 use Rattle.rules.specs.Lexer.{tokens, errors}
-use Rattle.rules.specs.Script.{LIMIT, accepted, script_text, script_tokens, script_errors}
+use Rattle.rules.specs.Script.{accepted, script_text, script_tokens, script_errors}
 use Rattle.cursor.specs.Cursor.{left}
 use Rattle.bridge.specs.Bridge.{placed, Within}
 use Rattle.records.proofs.Filling.{Ahead, ahead_start, ahead_step, ahead_end}
-use Rattle.output.specs.Writing.{Put}
 use Rattle.list_loop.proofs.Loop.{begin_good}
 use Rattle.prints.specs.Print.{print_bytes}
 use Rattle.prints.specs.Records.{quote_at}
@@ -22,7 +20,6 @@ use Rattle.prints.specs.Writing.{outside, write_tokens}
 use Rattle.prints.proofs.Stepwise.{print_tokens}
 use Rattle.print_places.specs.Places.{still, still_of, no_errors, right_from}
 use Rattle.print_loop.specs.declared.Turn.{Turn}
-use Rattle.print_loop.specs.declared.Walked.{Walked}
 use Rattle.print_loop.specs.Loops.{FRONT, Goes, Ends, TurnBy, TurnAt, WalkedAt}
 
 -- The text `s` of the script was printed up to the place `from`: `at` bytes are written, and the buffer was `out₀`. What is still to be

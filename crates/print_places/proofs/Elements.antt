@@ -7,9 +7,9 @@ use native.Mathlib.Omega.{arith}
 use Rattle.characters.specs.Choice.{◌is◌}
 use Rattle.characters.specs.Utf8.{chars_at, encode}
 use Rattle.spans.specs.declared.Position.{Position}
-use Rattle.rules.specs.Text.{Text, ch, text}
+use Rattle.rules.specs.Text.{Text, text}
 use Rattle.rules.specs.Tokens.{Token}
-use Rattle.rules.specs.Tables.{StringLiteral, StringInterpStart, DocComment, EOF}
+use Rattle.rules.specs.Tables.{EOF}
 use Rattle.rules.specs.Lexer.{span}
 use Rattle.cursor.specs.Cursor.{left, Yields}
 use Rattle.cursor.specs.declared.Cursor.TheVariants.{Outside}
@@ -18,9 +18,9 @@ use Rattle.output.specs.Writing.{Put}
 use Rattle.walks.specs.Segments.{segment_at, errors_at, OneToken}
 use Rattle.walks.proofs.Segments.{one_token_yields}
 use Rattle.prints.specs.Elements.{Word, lone}
-use Rattle.prints.specs.Print.{literal, is_doc}
+use Rattle.prints.specs.Print.{is_doc}
 use Rattle.prints.specs.Records.{quote_at}
-use Rattle.prints.specs.Writing.{State, outside, in_string, due_space, begun, one_piece, name_behind}
+use Rattle.prints.specs.Writing.{State, outside, due_space, begun, one_piece, name_behind}
 use Rattle.print_places.specs.declared.Written.{Written}
 use Rattle.print_places.specs.Places.{lexed_from, still_of, still, no_errors, right_from, GROWTH, Emits}
 use Rattle.print_places.proofs.Lineless.{still_lineless, right_lineless}

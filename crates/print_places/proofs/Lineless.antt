@@ -11,7 +11,7 @@ use Rattle.spans.specs.Span.{single}
 use Rattle.rules.specs.Text.{Text}
 use Rattle.rules.specs.Tokens.{Token, TokenizeError}
 use Rattle.rules.specs.Segment.{Piece, Fault, Segment}
-use Rattle.rules.specs.Lexer.{segments, after, span, place_in, tokens_of, errors_of, Lexed, place, lex, eof}
+use Rattle.rules.specs.Lexer.{segments, after, span, place_in, tokens_of, errors_of, place, eof}
 use Rattle.rules.specs.Script.{as_bytes}
 use Rattle.rules.specs.Tables.{EOF}
 use Rattle.rules.proofs.Placed.{span_plain, after_offset}

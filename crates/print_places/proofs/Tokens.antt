@@ -1,24 +1,22 @@
 -- What is written for one token, and for the pieces of a string. Assumes nothing.
-use mathlib.Core.Path.{◌≡◌, refl, sym, ap, ◌∙◌}
-use mathlib.Core.Bool.{Bool, true, false, ◌||◌, not, true≢false}
+use mathlib.Core.Path.{◌≡◌, refl, ap, ◌∙◌}
+use mathlib.Core.Bool.{Bool, true, false, not, true≢false}
 use mathlib.Core.List.{List, [], ◌∷◌, ◌++◌, map, append_assoc}
 use Prim.Native.Nat.{ℕ, zero, suc, ◌≤◌, ◌<◌}
 use native.Mathlib.Omega.{arith}
-use lib.Dec.{leb}
 use lib.ListN.{length, take}
 use borrow.Author.Tests.{le-leb}
 use Rattle.characters.specs.Choice.{if◌then◌else◌, ◌is◌}
-use Rattle.characters.specs.Utf8.{encode}
 use Rattle.spans.specs.declared.Position.{Position}
 use Rattle.spans.specs.Span.{single, merge, earlier}
-use Rattle.rules.specs.Text.{Text, ch, text}
+use Rattle.rules.specs.Text.{Text, text}
 use Rattle.rules.specs.Tokens.{Token, TokenizeError}
 use Rattle.rules.specs.Tables.{EOF}
 use Rattle.rules.specs.Segment.{Piece, Segment}
 use Rattle.rules.specs.Strings.{string_from}
-use Rattle.rules.specs.Lexer.{segments, advances, after, span, tokens_of, Lexed, place, lex, eof}
+use Rattle.rules.specs.Lexer.{segments, after, span, tokens_of, Lexed, place, eof}
 use Rattle.rules.specs.Script.{as_bytes}
-use Rattle.rules.proofs.Ahead.{is_not, is_eq}
+use Rattle.rules.proofs.Ahead.{is_not}
 use Rattle.rules.proofs.Placed.{span_plain, advances_offset, after_offset}
 use Rattle.rules.proofs.Starts.{AllPieces, string_pieces}
 use Rattle.cursor.specs.Cursor.{and_then, held, left, place_from, tokens_from}
@@ -27,7 +25,7 @@ use Rattle.prints.specs.Elements.{Word, lone, token_word}
 use Rattle.prints.specs.Print.{is_doc}
 use Rattle.prints.specs.Records.{quote_at}
 use Rattle.prints.specs.Writing.{State, outside, in_string, closing_quote, is_due, is_named, continues_at, due_space, begun, one_piece, name_behind, token_text, state_behind, write_tokens}
-use Rattle.prints.proofs.Stepwise.{write_token, write_eof}
+use Rattle.prints.proofs.Stepwise.{write_token}
 use Rattle.prints.proofs.Facts.{is_same}
 use Rattle.prints.proofs.Grouped.{string_some, piece_no_eof}
 use Rattle.print_places.specs.Places.{still_of, no_errors}

@@ -4,7 +4,7 @@ use mathlib.Core.Bool.{Bool, true, false, ◌&&◌, true≢false}
 use mathlib.Core.List.{List, [], ◌∷◌, ◌++◌, append_assoc}
 use Prim.Native.Nat.{ℕ, ◌+◌, ◌*◌, ◌-◌, ◌≤◌, ◌<◌}
 use native.Mathlib.Omega.{arith}
-use lib.ListN.{length, get_or}
+use lib.ListN.{length}
 use Rattle.characters.specs.Choice.{◌is◌}
 use Rattle.characters.specs.Utf8.{chars_at, encode, width}
 use Rattle.spans.specs.declared.Position.{Position}
@@ -25,7 +25,7 @@ use Rattle.bridge.proofs.Reaches.{one_on}
 use Rattle.output.specs.Writing.{Put}
 use Rattle.output.proofs.Buffers.{put_then, put_length}
 use Rattle.walks.specs.Walks.{quotes}
-use Rattle.string_runs.specs.Runs.{run_chars, run_made, run_errors}
+use Rattle.string_runs.specs.Runs.{run_made, run_errors}
 use Rattle.interpolations.specs.Interpolations.{interpolation_at}
 use Rattle.prints.specs.Print.{literal, parting, is_name}
 use Rattle.prints.specs.Records.{quote_at}

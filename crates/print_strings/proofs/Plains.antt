@@ -1,10 +1,9 @@
 -- Plain characters of a string are written as they stand. Assumes nothing.
-use mathlib.Core.Path.{◌≡◌, refl, sym, ap, ◌∙◌, subst}
+use mathlib.Core.Path.{◌≡◌, refl, sym, ap, ◌∙◌}
 use mathlib.Core.Bool.{Bool, true, false, ◌&&◌, not, true≢false}
 use mathlib.Core.List.{List, [], ◌∷◌, ◌++◌}
-use Prim.Native.Nat.{ℕ, ◌≤◌}
+use Prim.Native.Nat.{ℕ}
 use native.Mathlib.Omega.{arith}
-use lib.Dec.{leb}
 use lib.Seq.{slice}
 use Rattle.characters.specs.Choice.{if◌then◌else◌, ◌is◌}
 use Rattle.characters.specs.Utf8.{chars_at, encode}
@@ -19,7 +18,6 @@ use Rattle.prints.proofs.Bytewise.{escapes_encode}
 use Rattle.print_escapes.proofs.Sizes.{literal_false}
 use Rattle.text_parts.specs.Parts.{part_bytes}
 use Rattle.text_parts.specs.Units.{GoesOn}
-use Rattle.text_parts.specs.declared.Part.{Part}
 use Rattle.text_parts.specs.declared.Part.TheVariants as part
 use Rattle.text_parts.specs.declared.units.Step.{Step}
 use Rattle.print_strings.specs.Strings.{emitted_part}

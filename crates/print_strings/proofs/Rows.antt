@@ -2,11 +2,10 @@
 use mathlib.Core.Path.{◌≡◌, refl, sym, ap, ◌∙◌, subst}
 use mathlib.Core.Bool.{Bool, true, false, ◌&&◌, not, true≢false, and-true, and-false}
 use mathlib.Core.List.{List, [], ◌∷◌, ◌++◌, append-nil}
-use Prim.Native.Nat.{ℕ, ◌+◌, ◌*◌, ◌-◌, ◌≤◌, ◌<◌}
+use Prim.Native.Nat.{ℕ, ◌+◌, ◌*◌, ◌-◌, ◌≤◌}
 use native.Mathlib.Omega.{arith}
 use lib.ListN.{length, length-append}
 use lib.Seq.{slice, length-slice}
-use borrow.Author.Tests.{not-true}
 use Rattle.characters.specs.Utf8.{chars_at, encode, encode_char}
 use Rattle.characters.proofs.Choice.{if_all}
 use Rattle.characters.proofs.Widths.{char_length, width_bounds}
@@ -34,7 +33,6 @@ use Rattle.text_parts.specs.declared.Part.TheVariants as part
 use Rattle.text_parts.specs.declared.units.Step.{Step}
 use Rattle.text_parts.proofs.Strings.{units_over, errors_over, chars_over}
 use Rattle.print_strings.specs.Strings.{named_behind, emitted_part, RowWritten, RowBy}
-use Rattle.print_strings.specs.declared.Row.{Row}
 
 -- ── One part ──
 

@@ -1,31 +1,29 @@
 -- A turn of a string's print: the units from a position on, and then a closing quote, an interpolation, or an error. Assumes nothing.
 use mathlib.Core.Path.{◌≡◌, refl, sym, ap, ◌∙◌, subst}
-use mathlib.Core.Bool.{Bool, true, false, ◌&&◌, not, true≢false}
-use mathlib.Core.List.{List, [], ◌∷◌, ◌++◌, append_assoc, append-nil}
+use mathlib.Core.Bool.{Bool, true, false, ◌&&◌, true≢false}
+use mathlib.Core.List.{List, [], ◌∷◌, ◌++◌}
 use Prim.Native.Nat.{ℕ, ◌+◌, ◌≤◌, ◌<◌}
 use native.Mathlib.Omega.{arith}
-use lib.ListN.{length, take, drop, take-append-drop}
-use Rattle.characters.specs.Utf8.{chars_at, encode, bytes, width}
-use Rattle.characters.specs.Choice.{◌is◌}
+use lib.ListN.{length, drop, take-append-drop}
+use Rattle.characters.specs.Utf8.{chars_at, encode}
 use Rattle.spans.specs.declared.Position.{Position}
 use Rattle.rules.specs.Text.{Text, ch, text, LF, is_empty}
 use Rattle.rules.specs.Scan.{next}
 use Rattle.rules.specs.Strings.{is_interp_start}
-use Rattle.rules.specs.Tables.{StringLiteral, StringInterpStart, EOF, UnterminatedString, LineFeedInString, UnterminatedInterpolation}
-use Rattle.rules.specs.Tokens.{Token, TokenizeError}
-use Rattle.rules.specs.Lexer.{advance, advances, span, Lexed}
+use Rattle.rules.specs.Tables.{UnterminatedString, LineFeedInString}
+use Rattle.rules.specs.Tokens.{TokenizeError}
+use Rattle.rules.specs.Lexer.{advance, advances, Lexed}
 use Rattle.cursor.specs.declared.Cursor.TheVariants.{Outside, InString}
-use Rattle.cursor.specs.Strings.{Interpolation, stands, units_made, units_errors, units_ahead, interpolation_of}
+use Rattle.cursor.specs.Strings.{Interpolation, units_made, units_errors, units_ahead, interpolation_of}
 use Rattle.cursor.specs.Cursor.{and_then, held, left, literal as literalToken, interpolation, error_at, interpolation_errors}
 use Rattle.cursor.proofs.Inside.{left_inside}
 use Rattle.cursor.proofs.Units.{Whole}
-use Rattle.cursor.proofs.Pieces.{empty_nil, stops_dollar, piece_end, piece_feed, piece_quote, string_over, piece_dollar, piece_interp, held_interp}
-use Rattle.bridge.specs.Bridge.{Within, Reach, exactly}
+use Rattle.cursor.proofs.Pieces.{piece_end, piece_feed, piece_quote, string_over, piece_dollar, piece_interp, held_interp}
+use Rattle.bridge.specs.Bridge.{Reach}
 use Rattle.walks.proofs.Enclosed.{reach_offset}
 use Rattle.walks.proofs.Whole.{reach_forth}
 use Rattle.string_runs.specs.Runs.{run_chars, run_made, run_errors}
 use Rattle.interpolations.specs.Interpolations.{interpolation_at}
-use Rattle.interpolations.proofs.InterpLaws.{interp_first}
 use Rattle.strings.proofs.PieceLaws.{front_whole}
 use Rattle.prints.specs.Print.{literal, parting, is_name}
 use Rattle.prints.specs.Writing.{outside, in_string, one_piece, name_behind}

@@ -1,12 +1,11 @@
 -- The print of each worked example is what its row says. Assumes nothing.
 use mathlib.Core.Path.{◌≡◌, refl}
-use mathlib.Core.List.{List, [], ◌∷◌, map}
-use Prim.Native.Nat.{ℕ}
+use mathlib.Core.List.{map}
 use Rattle.characters.specs.Choice.{within}
 use Rattle.characters.specs.Utf8.{is_tail, second_ok, two_of, three_of, four_of, sequence, first_of, after as afterChar, chars_past, chars_of, width, encode_char, encode, bytes}
 use Rattle.characters.specs.Space.{is_white}
 use Rattle.byte_order_mark.specs.Mark.{has_mark, mark_length, after_mark}
-use Rattle.rules.specs.Text.{Text, text, one_of, is_empty, same_text, is_digit, is_letter, is_hex_digit, is_ident_start, is_ident_part, hex_value}
+use Rattle.rules.specs.Text.{one_of, is_empty, same_text, is_digit, is_letter, is_hex_digit, is_ident_start, is_ident_part, hex_value}
 use Rattle.rules.specs.Scan.{next, starts_with, run, one_char, up_to}
 use Rattle.rules.specs.Tables.{KEYWORDS, keyword_in, lookup_keyword, MARKS, THIRDS, ESCAPES, lookup}
 use Rattle.rules.specs.Segment.{word_end}

@@ -1,11 +1,11 @@
 -- Character literals: `parse_char` (lexer.rs, lines 776 to 851).
-use Rattle.std.specs.Prelude.{Bool, true, false, List, [], ◌∷◌, ◌++◌, ℕ, length, take, drop}
+use Rattle.std.specs.Prelude.{Bool, true, false, List, [], ◌∷◌, ◌++◌, length, take, drop}
 use Rattle.characters.specs.Choice.{if◌then◌else◌, ◌is◌}
-use Rattle.rules.specs.Text.{Char, Text, ch, text}
+use Rattle.rules.specs.Text.{Text, ch, text}
 use Rattle.rules.specs.Scan.{starts_with}
 use Rattle.rules.specs.Tables.{CharLiteral, UnterminatedCharacter}
 use Rattle.rules.specs.Segment.{piece, Fault, fault, Segment, with_token}
-use Rattle.rules.specs.Strings.{Escape, escape}
+use Rattle.rules.specs.Strings.{escape}
 
 -- The literal of the characters `cs`, with its text `t`.
 abbrev pub char_token : Text → Text → List Fault → Bool → Segment

@@ -1,5 +1,5 @@
 -- Documentation comments, and what begins with a slash: `parse_slash_or_comment` (lexer.rs, lines 928 to 998).
-use Rattle.std.specs.Prelude.{Bool, true, false, ◌&&◌, not, List, [], ◌∷◌, ◌++◌, map, length, drop}
+use Rattle.std.specs.Prelude.{◌&&◌, not, List, [], ◌∷◌, ◌++◌, map, length, drop}
 use Rattle.characters.specs.Choice.{if◌then◌else◌, ◌is◌}
 use Rattle.characters.specs.Space.{is_white}
 use Rattle.rules.specs.Text.{Char, Text, ch, text, LF, is_empty}

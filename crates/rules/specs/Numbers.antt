@@ -1,5 +1,5 @@
 -- Numbers: `parse_number` and `maybe_suffix` (lexer.rs, lines 417 to 530).
-use Rattle.std.specs.Prelude.{Bool, true, false, ◌&&◌, ◌||◌, List, [], ◌∷◌, ◌++◌, ℕ}
+use Rattle.std.specs.Prelude.{Bool, false, ◌&&◌, ◌||◌, [], ◌∷◌, ℕ}
 use Rattle.characters.specs.Choice.{if◌then◌else◌, ◌is◌}
 use Rattle.rules.specs.Text.{Char, Text, ch, text, one_of, is_digit, is_hex_digit, is_empty}
 use Rattle.rules.specs.Scan.{next, Part, nothing, takes, run, one_char, ◌and_then◌}

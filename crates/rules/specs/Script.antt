@@ -1,5 +1,5 @@
 -- Scripts, given by their bytes. The mark is dropped, and the characters are those of RFC 3629.
-use Rattle.std.specs.Prelude.{Bool, true, false, ◌&&◌, List, map, ℕ, leb, length}
+use Rattle.std.specs.Prelude.{Bool, ◌&&◌, List, map, ℕ, leb, length}
 use Rattle.characters.specs.Utf8.{chars_of, is_utf8, encode}
 use Rattle.byte_order_mark.specs.Mark.{after_mark}
 use Rattle.rules.specs.Text.{Text}

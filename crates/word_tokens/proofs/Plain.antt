@@ -4,7 +4,7 @@ use mathlib.Core.Bool.{Bool, true, false, ◌&&◌, not, false≢true}
 use mathlib.Core.List.{List, [], ◌∷◌}
 use mathlib.Core.Option.{Option, none, some}
 use Prim.Native.Nat.{ℕ}
-use Rattle.characters.specs.Choice.{◌is◌, within}
+use Rattle.characters.specs.Choice.{within}
 use Rattle.characters.proofs.Choice.{if_all}
 use Rattle.rules.specs.Text.{Char, Text, text, is_empty, same_text}
 use Rattle.rules.specs.Scan.{starts_with, ◌and_then◌}

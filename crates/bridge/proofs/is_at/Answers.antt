@@ -1,6 +1,5 @@
 -- `is_at` meets its contract. Assumes nothing.
 use mathlib.Core.Path.{sym}
-use borrow.Author.Rules.{rules}
 use Rattle.bridge.specs.Bridge.{exactly}
 use Rattle.bridge.proofs.Tests.{low_is}
 use Rattle.bridge.proofs.Bytes.{byte_next}

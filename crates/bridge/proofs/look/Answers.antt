@@ -1,7 +1,6 @@
 -- `look` meets its contract. Assumes nothing.
 use mathlib.Core.Path.{sym, ◌∙◌}
 use native.Mathlib.Omega.{arith}
-use borrow.Author.Rules.{rules}
 use Rattle.characters.proofs.Decoding.{placed_code}
 use Rattle.characters.proofs.Characters.{chars_bad, chars_end}
 use Rattle.bridge.proofs.Reaches.{next_char}

@@ -1,5 +1,4 @@
 -- `past` meets its contract. Assumes nothing.
-use borrow.Author.Rules.{rules}
 use Rattle.bridge.proofs.Reaches.{advance_feed, advance_along}
 use Rattle.bridge.proofs.past.Goals as goal
 

@@ -1,12 +1,8 @@
 -- `past_plain` meets its contract. Whatever ends the walk from where the loop stands ends it from its beginning. Assumes nothing.
-use mathlib.Core.Path.{◌≡◌, sym, ◌∙◌, subst}
-use mathlib.Core.Logic.{⊎_elim}
-use Prim.Native.Nat.{ℕ, ◌+◌, ◌-◌}
-use lib.ListN.{length}
-use borrow.Author.Rules.{rules}
-use borrow.Author.Tests.{not-true, not-false}
+use mathlib.Core.Path.{sym, ◌∙◌, subst}
+use Prim.Native.Nat.{◌+◌}
 use native.Mathlib.Omega.{arith}
-use Rattle.bridge.specs.Bridge.{Stops, is_plain}
+use Rattle.bridge.specs.Bridge.{is_plain}
 use Rattle.bridge.proofs.Plains.{Mid, mid_start, mid_char, mid_tail, mid_stop, mid_end}
 use Rattle.bridge.proofs.past_plain.Goals as goal
 use Rattle.bridge.proofs.past_plain.Goals.{then-not-is_tail, else-not-is_tail}
@@ -31,14 +27,14 @@ pub loop-at-preserved : goal.loop-at-preserved
 loop-at-preserved c =
     let g = sym c.is_plain.ensures ∙ c.if-not-is_plain.false in
     let m : Mid _ _ _ (c.loop-at.at + 1) c.if-not-is_tail.col =
-        elim c.if-not-is_tail.branch [
-          then-not-is_tail w ↦
-              subst (Mid _ _ _ (c.loop-at.at + 1)) (sym w.col-is)
-              (mid_char _ _ _ c.loop-at.invariant.1 _ _ c.loop-at.at c.loop-at.col c.loop-at.invariant.0 (omega arith) (sym c.is_tail.ensures ∙ w.if-not-is_tail.true) g)
-        | else-not-is_tail w ↦
-              subst (Mid _ _ _ (c.loop-at.at + 1)) (sym w.col-is)
-              (mid_tail _ _ _ c.loop-at.invariant.1 _ _ c.loop-at.at c.loop-at.col c.loop-at.invariant.0 (omega arith) (sym c.is_tail.ensures ∙ w.if-not-is_tail.false))
-        ] in
+    elim c.if-not-is_tail.branch [
+      | then-not-is_tail w ↦
+          subst (Mid _ _ _ (c.loop-at.at + 1)) (sym w.col-is)
+          (mid_char _ _ _ c.loop-at.invariant.1 _ _ c.loop-at.at c.loop-at.col c.loop-at.invariant.0 (omega arith) (sym c.is_tail.ensures ∙ w.if-not-is_tail.true) g)
+      | else-not-is_tail w ↦
+          subst (Mid _ _ _ (c.loop-at.at + 1)) (sym w.col-is)
+          (mid_tail _ _ _ c.loop-at.invariant.1 _ _ c.loop-at.at c.loop-at.col c.loop-at.invariant.0 (omega arith) (sym c.is_tail.ensures ∙ w.if-not-is_tail.false))
+    ] in
     (m, c.loop-at.invariant.1)
 
 pub returns : goal.returns

@@ -1,13 +1,8 @@
 -- `past_plain` meets its contract. Whatever ends the walk from where the loop stands ends it from its beginning. Assumes nothing.
-use mathlib.Core.Path.{◌≡◌, sym, ◌∙◌, subst}
-use mathlib.Core.Logic.{⊎_elim}
-use Prim.Native.Nat.{ℕ, ◌+◌, ◌-◌}
+use Prim.Native.Nat.{◌-◌}
 use lib.ListN.{length}
-use borrow.Author.Rules.{rules}
-use borrow.Author.Tests.{not-true, not-false}
-use native.Mathlib.Omega.{arith}
 use Rattle.bridge.specs.Bridge.{Stops, is_plain}
-use Rattle.bridge.proofs.Plains.{Mid, mid_start, mid_char, mid_tail, mid_stop, mid_end}
+use Rattle.bridge.proofs.Plains.{Mid}
 use Rattle.bridge.proofs.past_plain.Given as goal
 
 abbrev pub invariant-loop-at : goal.invariant-loop-at

@@ -1,12 +1,8 @@
 -- `plain_end` meets its contract. Whatever ends the walk from where the loop stands ends it from its beginning. Assumes nothing.
 use mathlib.Core.Path.{sym, ◌∙◌}
-use Prim.Native.Nat.{◌-◌}
-use lib.ListN.{length}
-use borrow.Author.Rules.{rules}
-use borrow.Author.Tests.{not-true, not-false}
 use native.Mathlib.Omega.{arith}
-use Rattle.bridge.specs.Bridge.{Stops, is_plain}
-use Rattle.bridge.proofs.Plains.{MidAt, mid_at_start, mid_at_more, mid_at_stop, mid_at_end}
+use Rattle.bridge.specs.Bridge.{is_plain}
+use Rattle.bridge.proofs.Plains.{mid_at_start, mid_at_more, mid_at_stop, mid_at_end}
 use Rattle.bridge.proofs.plain_end.Goals as goal
 
 pub loop-end-init : goal.loop-end-init

@@ -3,7 +3,6 @@ use Rattle.byte_order_mark.proofs.Marks.{mark_length_inside, after_mark_part}
 use mathlib.Core.Path.{ap}
 use Prim.Native.Nat.{ℕ}
 use Rattle.byte_order_mark.specs.Slices.{bytes_behind}
-use borrow.Author.Rules.{rules}
 use native.Mathlib.Omega.{arith}
 use Rattle.byte_order_mark.proofs.after_mark.Goals as goal
 

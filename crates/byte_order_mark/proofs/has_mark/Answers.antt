@@ -2,7 +2,6 @@
 use mathlib.Core.Path.{sym, ◌∙◌}
 use borrow.Author.Tests.{eq-eqb, ne_eqb}
 use Rattle.byte_order_mark.specs.Mark.{has_mark}
-use borrow.Author.Rules.{rules}
 use Rattle.byte_order_mark.proofs.has_mark.Goals as goal
 
 pub returns-then-b : goal.returns-then-b

@@ -1,7 +1,6 @@
 -- `byte_order_mark::mark_length` meets its contract. Assumes nothing.
 use mathlib.Core.Path.{sym, ◌∙◌}
 use Rattle.byte_order_mark.proofs.Marks.{mark_length_yes, mark_length_no}
-use borrow.Author.Rules.{rules}
 use Rattle.byte_order_mark.proofs.mark_length.Goals as goal
 
 pub returns-then-has_mark : goal.returns-then-has_mark

@@ -1,5 +1,4 @@
 -- `class_at` meets its contract. Assumes nothing.
-use borrow.Author.Rules.{rules}
 use Rattle.classes.proofs.class_at.Goals as goal
 
 pub returns : goal.returns

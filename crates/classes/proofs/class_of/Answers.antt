@@ -1,6 +1,5 @@
 -- `class_of` meets its contract. Assumes nothing.
 use mathlib.Core.Path.{sym}
-use borrow.Author.Rules.{rules}
 use Rattle.classes.proofs.Classes.{class_entry, class_high}
 use Rattle.classes.proofs.class_of.Goals as goal
 

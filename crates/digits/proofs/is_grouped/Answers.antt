@@ -1,5 +1,4 @@
 -- `is_grouped` meets its contract. Assumes nothing.
-use borrow.Author.Rules.{rules}
 use Rattle.rules.specs.Numbers.{is_digit_or_underscore}
 use Rattle.digits.proofs.is_grouped.Goals as goal
 

@@ -1,12 +1,8 @@
 -- `past_hex` meets its contract. Assumes nothing.
 use mathlib.Core.Path.{sym, ◌∙◌}
-use Prim.Native.Nat.{◌-◌}
-use lib.ListN.{length}
 use native.Mathlib.Omega.{arith}
-use borrow.Author.Tests.{not-true, not-false}
 use Rattle.rules.specs.Numbers.{hex_part}
-use Rattle.rules.specs.Scan.{run}
-use Rattle.bridge.proofs.Cuts.{Going, run_more, run_stop, run_end}
+use Rattle.bridge.proofs.Cuts.{run_more, run_stop, run_end}
 use Rattle.digits.proofs.Tests.{hex_low}
 use Rattle.digits.proofs.past_hex.Goals as goal
 

@@ -1,5 +1,4 @@
 -- `doc_lines::is_blank` meets its contract. Assumes nothing.
-use borrow.Author.Rules.{rules}
 use Rattle.doc_lines.proofs.Places.{blank_ends, blank_white, in_line_lem, out_of_line}
 use Rattle.doc_lines.proofs.is_blank.Goals as goal
 

@@ -1,5 +1,4 @@
 -- `doc_lines::is_ink` meets its contract. Assumes nothing.
-use borrow.Author.Rules.{rules}
 use Rattle.doc_lines.specs.Lines.{is_ink}
 use Rattle.doc_lines.proofs.is_ink.Goals as goal
 

@@ -1,6 +1,5 @@
 -- `doc_lines::kept_end` meets its contract. Assumes nothing.
 use mathlib.Core.Path.{sym, ◌∙◌}
-use borrow.Author.Rules.{rules}
 use Rattle.doc_lines.proofs.kept_end.Goals as goal
 
 pub returns-then-is_white : goal.returns-then-is_white

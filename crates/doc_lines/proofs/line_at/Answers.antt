@@ -1,5 +1,4 @@
 -- `doc_lines::line_at` meets its contract. Assumes nothing.
-use borrow.Author.Rules.{rules}
 use Rattle.doc_lines.proofs.Places.{line_clean}
 use Rattle.doc_lines.proofs.line_at.Goals as goal
 

@@ -1,13 +1,9 @@
 -- `doc_lines::past_blanks` meets its contract. The invariant: what is passed from here on is passed from the start on. Assumes nothing.
 use mathlib.Core.Path.{sym, ◌∙◌, subst}
-use Prim.Native.Nat.{◌-◌}
 use native.Mathlib.Omega.{arith}
-use lib.ListN.{length}
-use borrow.Author.Tests.{not-true, not-false}
-use borrow.Author.Rules.{rules}
 use Rattle.characters.proofs.Widths.{width_bounds}
 use Rattle.doc_lines.specs.Lines.{NextAt, is_blank}
-use Rattle.doc_lines.proofs.Places.{Skipping, skip_start, skip_end, skip_stop, skip_more}
+use Rattle.doc_lines.proofs.Places.{skip_start, skip_end, skip_stop, skip_more}
 use Rattle.doc_lines.proofs.Inks.{stops_blank}
 use Rattle.doc_lines.proofs.past_blanks.Goals as goal
 

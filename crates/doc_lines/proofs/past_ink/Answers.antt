@@ -1,11 +1,7 @@
 -- `doc_lines::past_ink` meets its contract. The invariant: such characters stand from the start up to here. Assumes nothing.
-use mathlib.Core.Path.{◌≡◌, sym, ◌∙◌}
+use mathlib.Core.Path.{sym, ◌∙◌}
 use mathlib.Core.Bool.{true}
-use Prim.Native.Nat.{ℕ, ◌-◌, ◌≤◌, ◌<◌}
 use native.Mathlib.Omega.{arith}
-use lib.ListN.{length, get_or}
-use borrow.Author.Tests.{not-true, not-false}
-use borrow.Author.Rules.{rules}
 use Rattle.doc_lines.specs.Lines.{is_ink}
 use Rattle.doc_lines.proofs.Inks.{ink_start, ink_more}
 use Rattle.doc_lines.proofs.past_ink.Goals as goal

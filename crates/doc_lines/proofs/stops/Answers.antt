@@ -1,7 +1,6 @@
 -- `doc_lines::stops` meets its contract. Assumes nothing.
 use mathlib.Core.Path.{sym, ◌∙◌}
 use borrow.Author.Tests.{le-leb, lt-leb}
-use borrow.Author.Rules.{rules}
 use Rattle.doc_lines.specs.Lines.{stops_at}
 use Rattle.doc_lines.proofs.stops.Goals as goal
 

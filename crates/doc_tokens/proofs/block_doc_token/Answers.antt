@@ -3,7 +3,6 @@ use Rattle.rules.specs.Docs.{clean_doc}
 use Rattle.doc_tokens.proofs.Parts.{made_of}
 use Rattle.records.proofs.KindLaws.{doc_made}
 use Rattle.steps.proofs.Founds.{made_found}
-use borrow.Author.Rules.{rules}
 use Rattle.doc_tokens.proofs.block_doc_token.Goals as goal
 
 pub returns : goal.returns

@@ -1,6 +1,5 @@
 -- `doc_token` meets its contract.
 use mathlib.Core.Path.{sym, ◌∙◌}
-use borrow.Author.Rules.{rules}
 use Rattle.doc_tokens.proofs.doc_token.Goals as goal
 
 pub line_doc_token-requires : goal.line_doc_token-requires

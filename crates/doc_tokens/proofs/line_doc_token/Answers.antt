@@ -4,7 +4,6 @@ use Rattle.rules.specs.Docs.{trim}
 use Rattle.doc_tokens.proofs.Parts.{made_of}
 use Rattle.records.proofs.KindLaws.{doc_made}
 use Rattle.steps.proofs.Founds.{clean_found}
-use borrow.Author.Rules.{rules}
 use Rattle.doc_tokens.proofs.line_doc_token.Goals as goal
 
 pub returns : goal.returns

@@ -1,8 +1,7 @@
 -- `docs::clean_doc` meets its contract. The invariant: the lines still to be written, written from here on, give the cleaned text
 use Prim.Native.Nat.{◌-◌}
-use native.Mathlib.Omega.{arith}
 use lib.ListN.{length}
-use Rattle.docs.proofs.Cleaning.{Cleaning, clean_start, clean_size, clean_last, clean_more}
+use Rattle.docs.proofs.Cleaning.{Cleaning}
 use Rattle.docs.proofs.clean_doc.Given as goal
 
 abbrev pub invariant-loop-l : goal.invariant-loop-l

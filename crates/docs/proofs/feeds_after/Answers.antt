@@ -1,5 +1,4 @@
 -- `docs::feeds_after` meets its contract. Assumes nothing.
-use borrow.Author.Rules.{rules}
 use Rattle.docs.proofs.Cleaning.{feeds_one, feeds_none, feeds_more}
 use Rattle.docs.proofs.feeds_after.Goals as goal
 

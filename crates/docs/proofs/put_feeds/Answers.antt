@@ -1,7 +1,6 @@
 -- `docs::put_feeds` meets its contract. The invariant: the line feeds still to be written, written from here on, give all of them
 use native.Mathlib.Omega.{arith}
-use borrow.Author.Rules.{rules}
-use Rattle.docs.proofs.Cleaning.{Feeding, feed_start, feed_more, feed_end}
+use Rattle.docs.proofs.Cleaning.{feed_start, feed_more, feed_end}
 use Rattle.docs.proofs.put_feeds.Goals as goal
 
 pub loop-left-init : goal.loop-left-init

@@ -1,7 +1,5 @@
 -- `docs::put_feeds` meets its contract. The invariant: the line feeds still to be written, written from here on, give all of them
-use native.Mathlib.Omega.{arith}
-use borrow.Author.Rules.{rules}
-use Rattle.docs.proofs.Cleaning.{Feeding, feed_start, feed_more, feed_end}
+use Rattle.docs.proofs.Cleaning.{Feeding}
 use Rattle.docs.proofs.put_feeds.Given as goal
 
 abbrev pub invariant-loop-left : goal.invariant-loop-left

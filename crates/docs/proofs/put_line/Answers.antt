@@ -2,7 +2,6 @@
 use Prim.Native.Nat.{ℕ}
 use native.Mathlib.Omega.{arith}
 use lib.ListN.{length-replicate}
-use borrow.Author.Rules.{rules}
 use Rattle.docs.proofs.Cleaning.{put_empty, put_full}
 use Rattle.docs.proofs.put_line.Goals as goal
 

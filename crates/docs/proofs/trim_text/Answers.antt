@@ -1,5 +1,4 @@
 -- `docs::trim_text` meets its contract. Assumes nothing.
-use borrow.Author.Rules.{rules}
 use Rattle.doc_lines.proofs.Places.{part_trim}
 use Rattle.docs.proofs.Cleaning.{part_written}
 use Rattle.docs.proofs.trim_text.Goals as goal

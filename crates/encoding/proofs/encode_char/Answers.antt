@@ -1,10 +1,8 @@
 -- `encoding::encode_char` meets its contract. Assumes nothing.
 use mathlib.Core.Path.{sym, ◌∙◌}
 use lib.ListN.{length}
-use borrow.Author.Tests.{not-true, not-false}
 use Rattle.characters.proofs.Widths.{scalar_bounds}
 use Rattle.encoding.proofs.Rooms.{room_yes, room_no_scalar, room_too_small, encode_refused, encode_written}
-use borrow.Author.Rules.{rules}
 use native.Mathlib.Omega.{arith}
 use Rattle.encoding.proofs.encode_char.Goals as goal
 

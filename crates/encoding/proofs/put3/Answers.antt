@@ -2,7 +2,6 @@
 use mathlib.Core.Path.{refl}
 use mathlib.Core.List.{[], ◌∷◌}
 use Rattle.characters.proofs.Buffers.{sets_more}
-use borrow.Author.Rules.{rules}
 use Rattle.encoding.proofs.put3.Goals as goal
 
 pub returns : goal.returns

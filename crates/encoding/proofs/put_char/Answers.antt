@@ -1,7 +1,6 @@
 -- `encoding::put_char` meets its contract. Assumes nothing.
 use mathlib.Core.Path.{refl}
 use Rattle.characters.proofs.Widths.{width_one, width_two, width_three, width_four, encode_one, encode_two, encode_three, encode_four}
-use borrow.Author.Rules.{rules}
 use native.Mathlib.Omega.{arith}
 use Rattle.encoding.proofs.put_char.Goals as goal
 

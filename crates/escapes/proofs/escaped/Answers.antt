@@ -1,6 +1,5 @@
 use Rattle.rules.specs.Tables.{ESCAPES, lookup}
 use Rattle.escapes.proofs.Letters.{letter_high, escape_small, byte_some, byte_none}
-use borrow.Author.Rules.{rules}
 use Rattle.escapes.proofs.escaped.Goals as goal
 
 pub returns-then-e-ge-BEYOND_ASCII : goal.returns-then-e-ge-BEYOND_ASCII

@@ -1,7 +1,6 @@
 use mathlib.Core.Path.{refl, sym, ◌∙◌}
 use Prim.Native.Nat.{◌+◌, ◌*◌}
 use Rattle.escapes.proofs.Digits.{Along, along_more, along_stop, along_done, digit_small}
-use borrow.Author.Rules.{rules}
 use native.Mathlib.Omega.{arith}
 use Rattle.escapes.proofs.four_digits.Goals as goal
 

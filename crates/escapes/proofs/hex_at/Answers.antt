@@ -1,6 +1,5 @@
 use mathlib.Core.Path.{◌∙◌, ap}
 use Rattle.escapes.specs.Escapes.{digit_of}
-use borrow.Author.Rules.{rules}
 use Rattle.escapes.proofs.hex_at.Goals as goal
 
 pub returns : goal.returns

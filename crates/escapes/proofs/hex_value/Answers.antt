@@ -1,7 +1,6 @@
 use mathlib.Core.Path.{sym, ◌∙◌}
 use Rattle.characters.proofs.Choice.{within_bounds}
 use Rattle.escapes.proofs.Digits.{digit_figure, digit_upper, digit_lower, digit_none}
-use borrow.Author.Rules.{rules}
 use native.Mathlib.Omega.{arith}
 use Rattle.escapes.proofs.hex_value.Goals as goal
 

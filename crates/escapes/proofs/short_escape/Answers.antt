@@ -1,6 +1,5 @@
 use mathlib.Core.Path.{◌∙◌, sym}
 use borrow.Author.Tests.{eq-eqb, ne_eqb}
-use borrow.Author.Rules.{rules}
 use Rattle.escapes.specs.Escapes.{short_escape}
 use Rattle.escapes.proofs.short_escape.Goals as goal
 

@@ -1,5 +1,4 @@
 -- `measure` meets its contract.
-use borrow.Author.Rules.{rules}
 use Rattle.host_calls.proofs.measure.Goals as goal
 
 pub returns : goal.returns

@@ -2,7 +2,6 @@
 use mathlib.Core.Path.{refl}
 use Rattle.host_answers.specs.Answers.{number_of, slots_after}
 use Rattle.host_calls.specs.Calls.{used_values}
-use borrow.Author.Rules.{rules}
 use Rattle.host_calls.proofs.put_answer.Goals as goal
 
 pub returns-in-Done : goal.returns-in-Done

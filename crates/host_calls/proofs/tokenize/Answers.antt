@@ -1,5 +1,4 @@
 -- `tokenize` meets its contract.
-use borrow.Author.Rules.{rules}
 use Rattle.host_calls.proofs.tokenize.Goals as goal
 
 pub returns : goal.returns

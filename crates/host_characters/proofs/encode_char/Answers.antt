@@ -1,7 +1,6 @@
 -- `encode_char` meets its contract.
 use mathlib.Core.Path.{◌∙◌, sym}
 use Rattle.host_characters.specs.Characters.{written}
-use borrow.Author.Rules.{rules}
 use Rattle.host_characters.proofs.encode_char.Goals as goal
 
 pub returns-in_default : goal.returns-in_default

@@ -1,7 +1,6 @@
 -- `first_bad` meets its contract.
 use mathlib.Core.Path.{refl, ◌∙◌, sym}
 use Rattle.host_characters.specs.Characters.{check_number, check_figure}
-use borrow.Author.Rules.{rules}
 use Rattle.host_characters.proofs.first_bad.Goals as goal
 
 pub returns-in_default : goal.returns-in_default

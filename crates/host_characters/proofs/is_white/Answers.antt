@@ -1,7 +1,6 @@
 -- `is_white` meets its contract.
 use mathlib.Core.Path.{◌∙◌, sym}
 use Rattle.host_answers.specs.Answers.{truth}
-use borrow.Author.Rules.{rules}
 use Rattle.host_characters.proofs.is_white.Goals as goal
 
 pub returns-then-is_white : goal.returns-then-is_white

@@ -5,7 +5,6 @@ use Rattle.host_reading.specs.Records.{record_values, token_values}
 use Rattle.host_matching.specs.Matching.{consumed_values}
 use Rattle.records.specs.Answers.{of_consumed}
 use borrow.Author.Rules.{rules}
-use borrow.Author.Tests.{not-true, not-false}
 use Rattle.host_matching.proofs.Unknown.{kind_low, consume_unknown}
 use Rattle.host_matching.proofs.consume.Goals as goal
 

@@ -4,7 +4,6 @@ use Rattle.host_answers.specs.Answers.{number_of, slots_after}
 use Rattle.host_matching.specs.Matching.{matched_values}
 use Rattle.records.specs.Answers.{of_matched}
 use borrow.Author.Rules.{rules}
-use borrow.Author.Tests.{not-true, not-false}
 use Rattle.host_matching.proofs.Unknown.{kind_low, match_unknown}
 use Rattle.host_matching.proofs.match_kind.Goals as goal
 

@@ -1,5 +1,4 @@
 -- `print` meets its contract.
-use borrow.Author.Rules.{rules}
 use Rattle.host_printing.proofs.print.Goals as goal
 
 pub returns : goal.returns

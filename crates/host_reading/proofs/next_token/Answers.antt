@@ -3,7 +3,6 @@ use mathlib.Core.Path.{refl, sym, ap, ◌∙◌}
 use Rattle.host_answers.specs.Answers.{number_of, slots_after}
 use Rattle.host_reading.specs.Records.{record_values, token_values}
 use Rattle.records.specs.Answers.{of_next}
-use borrow.Author.Rules.{rules}
 use Rattle.host_reading.proofs.next_token.Goals as goal
 
 pub returns-in-Got : goal.returns-in-Got

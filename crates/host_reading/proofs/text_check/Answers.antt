@@ -3,7 +3,6 @@ use mathlib.Core.Path.{refl, sym, ap, ◌∙◌}
 use Rattle.host_answers.specs.Answers.{number_of, slots_after}
 use Rattle.host_reading.specs.Records.{no_values}
 use Rattle.records.specs.Answers.{of_text_check}
-use borrow.Author.Rules.{rules}
 use Rattle.host_reading.proofs.text_check.Goals as goal
 
 pub returns-in-Inside : goal.returns-in-Inside

@@ -1,6 +1,5 @@
 use lib.Seq.{length-slice}
 use Rattle.interpolations.proofs.InterpLaws.{past_forth, interpolation_at_lem}
-use borrow.Author.Rules.{rules}
 use native.Mathlib.Omega.{arith}
 use Rattle.interpolations.proofs.interpolation.Goals as goal
 

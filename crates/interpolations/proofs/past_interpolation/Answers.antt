@@ -3,7 +3,6 @@ use Rattle.spans.specs.declared.Position.{Position}
 use Rattle.bridge.specs.Bridge.{Within}
 use Rattle.bridge.proofs.Reaches.{one_on, within_fits}
 use Rattle.interpolations.proofs.InterpLaws.{opening_brace, brace_past, name_past}
-use borrow.Author.Rules.{rules}
 use native.Mathlib.Omega.{arith}
 use Rattle.interpolations.proofs.past_interpolation.Goals as goal
 

@@ -1,6 +1,5 @@
 use Rattle.output.proofs.Buffers.{put_none}
 use Rattle.interpolations.specs.Interpolations.{missing}
-use borrow.Author.Rules.{rules}
 use Rattle.interpolations.proofs.put_brace.Goals as goal
 
 pub returns-then-found : goal.returns-then-found

@@ -1,5 +1,4 @@
 -- `entry` meets its contract. Assumes nothing.
-use borrow.Author.Rules.{rules}
 use Rattle.keywords.proofs.Keywords.{keyword_entry_lem}
 use Rattle.keywords.proofs.entry.Goals as goal
 

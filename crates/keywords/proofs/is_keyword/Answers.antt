@@ -1,9 +1,8 @@
 -- `is_keyword` meets its contract. Assumes nothing.
 use mathlib.Core.Path.{◌≡◌, refl, ◌∙◌}
-use Prim.Native.Nat.{◌≤◌, ◌-◌}
 use native.Mathlib.Omega.{arith}
 use Rattle.lexemes.proofs.Lists.{all_below}
-use Rattle.keywords.proofs.Keywords.{letters_short, pick_less, same_at, same_step, same_is}
+use Rattle.keywords.proofs.Keywords.{letters_short, pick_less, same_step, same_is}
 use Rattle.keywords.proofs.is_keyword.Goals as goal
 
 pub loop-i-init : goal.loop-i-init

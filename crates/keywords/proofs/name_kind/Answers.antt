@@ -2,7 +2,6 @@
 use mathlib.Core.Path.{refl, ◌∙◌}
 use Prim.Native.Nat.{◌-◌}
 use native.Mathlib.Omega.{arith}
-use borrow.Author.Rules.{rules}
 use Rattle.keywords.proofs.Keywords.{name_row, name_long, name_sized, name_other, name_found, name_missed}
 use Rattle.keywords.proofs.name_kind.Goals as goal
 

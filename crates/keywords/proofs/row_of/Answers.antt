@@ -1,6 +1,5 @@
 -- `row_of` meets its contract. Assumes nothing.
 use mathlib.Core.Path.{◌∙◌}
-use borrow.Author.Rules.{rules}
 use Rattle.keywords.proofs.Keywords.{slot_less, slot_entry}
 use Rattle.keywords.proofs.row_of.Goals as goal
 

@@ -1,7 +1,6 @@
 -- `slot_of` meets its contract. Assumes nothing.
 use mathlib.Core.Path.{refl}
 use Prim.Native.Nat.{◌-◌}
-use borrow.Author.Rules.{rules}
 use Rattle.keywords.proofs.Keywords.{slot_is}
 use Rattle.keywords.proofs.slot_of.Goals as goal
 

@@ -3,7 +3,6 @@ use mathlib.Core.Path.{subst}
 use Rattle.bridge.proofs.Reaches.{within_fits}
 use Rattle.letters.specs.Letters.{LetterAt}
 use Rattle.letters.proofs.CloseLaws.{quote_on, letter_few, finished, unfinished}
-use borrow.Author.Rules.{rules}
 use native.Mathlib.Omega.{arith}
 use Rattle.letters.proofs.character.Goals as goal
 

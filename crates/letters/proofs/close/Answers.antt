@@ -1,7 +1,6 @@
 -- `close` meets its contract.
 use mathlib.Core.Path.{◌∙◌}
 use Rattle.letters.proofs.CloseLaws.{closed_at}
-use borrow.Author.Rules.{rules}
 use Rattle.letters.proofs.close.Goals as goal
 
 pub returns-then-closed : goal.returns-then-closed

@@ -8,7 +8,6 @@ use Rattle.bridge.specs.Bridge.{Reach}
 use Rattle.string_units.specs.Units.{UnitAt}
 use Rattle.escapes.proofs.Digits.{value_some, value_none}
 use Rattle.letters.proofs.LetterLaws.{letter_unicode, letter_itself, letter_escape}
-use borrow.Author.Rules.{rules}
 use Rattle.letters.proofs.escape.Goals as goal
 
 pub unicode-requires : goal.unicode-requires

@@ -3,7 +3,6 @@ use mathlib.Core.Path.{subst}
 use Rattle.characters.specs.Utf8.{chars_at}
 use Rattle.bridge.specs.Bridge.{NextAt}
 use Rattle.letters.proofs.LetterLaws.{char_bound, ends_now, ends_behind, letter_plain, back_two, letter_behind}
-use borrow.Author.Rules.{rules}
 use Rattle.letters.proofs.letter_at.Goals as goal
 
 pub returns-in_default : goal.returns-in_default

@@ -2,7 +2,6 @@
 use mathlib.Core.Path.{sym, ◌∙◌}
 use Rattle.questions.proofs.Questions.{yes_accepted}
 use Rattle.lexer.proofs.Answers.{measure_no, measure_yes}
-use borrow.Author.Rules.{rules}
 use Rattle.lexer.proofs.measure.Goals as goal
 
 pub returns-in-No : goal.returns-in-No

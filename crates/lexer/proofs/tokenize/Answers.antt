@@ -2,7 +2,6 @@
 use mathlib.Core.Path.{sym, ◌∙◌}
 use Rattle.questions.proofs.Questions.{yes_accepted}
 use Rattle.lexer.proofs.Answers.{tokenize_no, tokenize_full, tokenize_yes, tokenize_counted, roomy_yes, mark_fits, after_size, after_low}
-use borrow.Author.Rules.{rules}
 use Rattle.lexer.proofs.tokenize.Goals as goal
 
 pub returns-in-No : goal.returns-in-No

@@ -1,10 +1,7 @@
 -- `run` meets its contract: what is still to be written after each turn completes what the script takes, and fewer tokens are left. Assumes nothing.
-use mathlib.Core.Path.{◌∙◌}
 use lib.ListN.{length}
 use Rattle.steps.specs.Step.{rest}
-use Rattle.list_loop.proofs.Loop.{Going, going_start, going_used, going_tokens, going_count, gave, ended, going_less, going_turn, going_end}
-use borrow.Author.Rules.{rules}
-use native.Mathlib.Omega.{arith}
+use Rattle.list_loop.proofs.Loop.{Going}
 use Rattle.list_loop.proofs.run.Given as goal
 
 abbrev pub invariant-loop-t : goal.invariant-loop-t

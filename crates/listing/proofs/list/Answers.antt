@@ -1,6 +1,5 @@
 -- `list` meets its contract. Assumes nothing.
 use Rattle.listing.proofs.Whole.{long_listed, read_room, read_listed, refused_listed}
-use borrow.Author.Rules.{rules}
 use Rattle.listing.proofs.list.Goals as goal
 
 pub returns-then-script-gt-LISTED : goal.returns-then-script-gt-LISTED

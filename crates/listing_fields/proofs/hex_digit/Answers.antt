@@ -1,6 +1,5 @@
 -- `hex_digit` meets its contract. Assumes nothing.
 use Rattle.listing_fields.proofs.Hex.{hex_low, hex_high}
-use borrow.Author.Rules.{rules}
 use Rattle.listing_fields.proofs.hex_digit.Goals as goal
 
 pub returns-then-d-lt-TEN : goal.returns-then-d-lt-TEN

@@ -1,7 +1,6 @@
 -- `put_field` meets its contract. Assumes nothing.
 use Rattle.listing_fields.proofs.Decimals.{few_digits, field_put}
 use Rattle.listing_fields.proofs.Lengths.{field_some}
-use borrow.Author.Rules.{rules}
 use native.Mathlib.Omega.{arith}
 use Rattle.listing_fields.proofs.put_field.Goals as goal
 

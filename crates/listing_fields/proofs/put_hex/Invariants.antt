@@ -1,8 +1,7 @@
 -- `put_hex` meets its contract. The invariant: what is still to be written, written from here on, gives the whole. Assumes
 use Prim.Native.Nat.{◌-◌}
 use lib.ListN.{length}
-use Rattle.listing_fields.proofs.Hex.{Hexing, hex_start, hex_place, hex_more, hex_end}
-use borrow.Author.Rules.{rules}
+use Rattle.listing_fields.proofs.Hex.{Hexing}
 use Rattle.listing_fields.proofs.put_hex.Given as goal
 
 abbrev pub invariant-loop-i : goal.invariant-loop-i

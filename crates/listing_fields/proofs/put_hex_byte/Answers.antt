@@ -1,6 +1,5 @@
 -- `put_hex_byte` meets its contract. Assumes nothing.
 use Rattle.listing_fields.proofs.Hex.{two_put}
-use borrow.Author.Rules.{rules}
 use Rattle.listing_fields.proofs.put_hex_byte.Goals as goal
 
 pub returns : goal.returns

@@ -2,7 +2,6 @@
 use Rattle.output.proofs.Buffers.{put_then}
 use Rattle.listing_fields.specs.Fields.{span_fields}
 use Rattle.listing_fields.proofs.Rooms.{room_front, room_then}
-use borrow.Author.Rules.{rules}
 use Rattle.listing_fields.proofs.put_span.Goals as goal
 
 pub put_field-a-requires : goal.put_field-a-requires

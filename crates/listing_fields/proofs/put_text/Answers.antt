@@ -1,6 +1,5 @@
 -- `put_text` meets its contract. Assumes nothing.
 use Rattle.listing_fields.proofs.Hex.{text_room, text_none, text_some}
-use borrow.Author.Rules.{rules}
 use Rattle.listing_fields.proofs.put_text.Goals as goal
 
 pub returns-then-text-eq0 : goal.returns-then-text-eq0

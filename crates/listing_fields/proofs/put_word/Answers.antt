@@ -1,6 +1,5 @@
 -- `put_word` meets its contract. Assumes nothing.
 use lib.Seq.{take-length}
-use borrow.Author.Rules.{rules}
 use Rattle.listing_fields.proofs.put_word.Goals as goal
 
 pub returns : goal.returns

@@ -1,6 +1,5 @@
 -- `put_closed` meets its contract. Assumes nothing.
 use Rattle.listing_lines.proofs.Words.{closed_line_lem, open_line}
-use borrow.Author.Rules.{rules}
 use Rattle.listing_lines.proofs.put_closed.Goals as goal
 
 pub returns-then-closed : goal.returns-then-closed

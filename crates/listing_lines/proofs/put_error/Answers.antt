@@ -5,7 +5,6 @@ use Rattle.listing_lines.proofs.Words.{error_with, error_bare}
 use Rattle.record_lists.specs.Lists.{error_of}
 use Rattle.listing_fields.proofs.Rooms.{room_place, room_front, room_then}
 use Rattle.listing_lines.specs.Lines.{error_line}
-use borrow.Author.Rules.{rules}
 use Rattle.listing_lines.proofs.put_error.Goals as goal
 
 pub put_head-p-requires : goal.put_head-p-requires

@@ -1,6 +1,5 @@
 -- `put_fixed` meets its contract. Assumes nothing.
 use Rattle.listing_lines.proofs.Words.{row_end, row_word}
-use borrow.Author.Rules.{rules}
 use native.Mathlib.Omega.{arith}
 use Rattle.listing_lines.proofs.put_fixed.Goals as goal
 

@@ -2,7 +2,6 @@
 use Rattle.output.proofs.Buffers.{put_then}
 use Rattle.listing_lines.specs.Lines.{head_of}
 use Rattle.listing_fields.proofs.Rooms.{room_front, room_then}
-use borrow.Author.Rules.{rules}
 use Rattle.listing_lines.proofs.put_head.Goals as goal
 
 pub put_field-q-requires : goal.put_field-q-requires

@@ -3,7 +3,6 @@ use Rattle.output.proofs.Buffers.{put_then}
 use Rattle.listing_lines.specs.Lines.{refused_line}
 use Rattle.listing_fields.proofs.Rooms.{room_place, room_front, room_then}
 use Rattle.listing_lines.proofs.Lengths.{refused_room}
-use borrow.Author.Rules.{rules}
 use Rattle.listing_lines.proofs.put_refused.Goals as goal
 
 pub put_field-q-requires : goal.put_field-q-requires

@@ -2,7 +2,6 @@
 use Rattle.output.proofs.Buffers.{put_then}
 use Rattle.listing_lines.specs.Lines.{token_line}
 use Rattle.listing_fields.proofs.Rooms.{room_place, room_front, room_then}
-use borrow.Author.Rules.{rules}
 use Rattle.listing_lines.proofs.put_token.Goals as goal
 
 pub put_head-p-requires : goal.put_head-p-requires

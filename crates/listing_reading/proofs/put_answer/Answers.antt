@@ -1,10 +1,7 @@
 -- `put_answer` meets its contract. Assumes nothing.
-use mathlib.Core.Path.{sym}
 use Rattle.output.proofs.Buffers.{put_then}
-use lib.Seq.{length-take-le}
 use Rattle.listing_reading.specs.Reading.{lines_read}
 use Rattle.listing_fields.proofs.Rooms.{room_front, room_then}
-use borrow.Author.Rules.{rules}
 use Rattle.listing_reading.proofs.put_answer.Goals as goal
 
 pub put_tokens-p-requires : goal.put_tokens-p-requires

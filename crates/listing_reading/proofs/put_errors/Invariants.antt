@@ -1,8 +1,5 @@
 -- `put_errors` meets its contract. The invariant: the lines of the errors still to be read complete the whole. Assumes
-use mathlib.Core.Path.{sym, ◌∙◌, ap}
-use Rattle.records.specs.Answers.{of_next_error}
-use Rattle.listing_reading.proofs.Turns.{Errors, errors_start, errors_place, errors_more, errors_end, errors_none, errors_stop}
-use borrow.Author.Rules.{rules}
+use Rattle.listing_reading.proofs.Turns.{Errors}
 use Rattle.listing_reading.proofs.put_errors.Given as goal
 
 abbrev pub invariant-loop-left : goal.invariant-loop-left

@@ -1,7 +1,6 @@
 -- `put_record` meets its contract. Assumes nothing.
 use mathlib.Core.Path.{sym, ◌∙◌}
 use Rattle.listing_reading.proofs.Words.{text_room, text_put, fixed_room, fixed_put}
-use borrow.Author.Rules.{rules}
 use Rattle.listing_reading.proofs.put_record.Goals as goal
 
 pub put_token-requires : goal.put_token-requires

@@ -1,8 +1,5 @@
 -- `put_tokens` meets its contract. The invariant: the lines of the tokens still to be read complete the whole. Assumes
-use mathlib.Core.Path.{sym, ◌∙◌, ap}
-use Rattle.records.specs.Answers.{of_next, of_text_check}
-use Rattle.listing_reading.proofs.Turns.{Tokens, tokens_start, tokens_place, tokens_more, tokens_last, tokens_end, tokens_none, tokens_stop, tokens_refused}
-use borrow.Author.Rules.{rules}
+use Rattle.listing_reading.proofs.Turns.{Tokens}
 use Rattle.listing_reading.proofs.put_tokens.Given as goal
 
 abbrev pub invariant-loop-left : goal.invariant-loop-left

@@ -1,7 +1,6 @@
 -- `longer_mark` meets its contract. Assumes nothing.
 use mathlib.Core.Path.{sym, ◌∙◌}
 use native.Mathlib.Omega.{arith}
-use borrow.Author.Rules.{rules}
 use Rattle.classes.proofs.Classes.{class_there}
 use Rattle.marks.proofs.Marks.{lone_word, second_letter, two_word, third_word, third_not}
 use Rattle.marks.proofs.longer_mark.Goals as goal

@@ -1,5 +1,4 @@
 -- `mark_at` meets its contract. Assumes nothing.
-use borrow.Author.Rules.{rules}
 use Rattle.marks.proofs.Marks.{delimiter_word}
 use Rattle.marks.proofs.mark_at.Goals as goal
 

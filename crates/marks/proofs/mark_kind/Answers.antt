@@ -1,5 +1,4 @@
 -- `mark_kind` meets its contract. Assumes nothing.
-use borrow.Author.Rules.{rules}
 use Rattle.marks.proofs.Marks.{mark_entry}
 use Rattle.marks.proofs.mark_kind.Goals as goal
 

@@ -2,7 +2,6 @@
 use Rattle.multiline.specs.Tokens.{dollar_brace}
 use Rattle.walks.proofs.Enclosed.{begin_reach}
 use Rattle.multiline.proofs.Tokens.{braces_at}
-use borrow.Author.Rules.{rules}
 use native.Mathlib.Omega.{arith}
 use Rattle.multiline.proofs.braces.Goals as goal
 

@@ -3,7 +3,6 @@ use Rattle.rules.specs.Text.{text}
 use Rattle.walks.proofs.Openings.{doc_starts}
 use Rattle.walks.proofs.Enclosed.{begin_reach}
 use Rattle.multiline.proofs.Tokens.{doc_block_at}
-use borrow.Author.Rules.{rules}
 use native.Mathlib.Omega.{arith}
 use Rattle.multiline.proofs.doc_block.Goals as goal
 

@@ -2,7 +2,6 @@
 use Rattle.multiline.specs.Tokens.{slashes}
 use Rattle.walks.proofs.Enclosed.{begin_reach}
 use Rattle.multiline.proofs.Tokens.{doc_line_at}
-use borrow.Author.Rules.{rules}
 use native.Mathlib.Omega.{arith}
 use Rattle.multiline.proofs.doc_line.Goals as goal
 

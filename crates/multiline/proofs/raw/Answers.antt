@@ -2,7 +2,6 @@
 use Rattle.walks.specs.Walks.{quotes}
 use Rattle.walks.proofs.Enclosed.{reach_on, begin_reach, upto_on}
 use Rattle.multiline.proofs.Tokens.{raw_at}
-use borrow.Author.Rules.{rules}
 use native.Mathlib.Omega.{arith}
 use Rattle.multiline.proofs.raw.Goals as goal
 

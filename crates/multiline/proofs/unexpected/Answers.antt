@@ -2,7 +2,6 @@
 use mathlib.Core.Path.{subst}
 use Rattle.bridge.specs.Bridge.{NextAt}
 use Rattle.multiline.proofs.Tokens.{unexpected_at, unexpected_none}
-use borrow.Author.Rules.{rules}
 use Rattle.multiline.proofs.unexpected.Goals as goal
 
 pub returns-in_default : goal.returns-in_default

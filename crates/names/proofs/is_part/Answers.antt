@@ -1,6 +1,5 @@
 -- `is_part` meets its contract. Assumes nothing.
 use mathlib.Core.Path.{sym, ◌∙◌}
-use borrow.Author.Rules.{rules}
 use Rattle.characters.specs.Choice.{within}
 use Rattle.rules.specs.Text.{is_digit, is_ident_part}
 use Rattle.names.proofs.is_part.Goals as goal

@@ -1,6 +1,5 @@
 -- `name_at` meets its contract. Assumes nothing.
 use native.Mathlib.Omega.{arith}
-use borrow.Author.Rules.{rules}
 use Rattle.names.proofs.Names.{name_some, name_word}
 use Rattle.names.proofs.name_at.Goals as goal
 

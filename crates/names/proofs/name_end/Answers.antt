@@ -1,12 +1,8 @@
 -- `name_end` meets its contract. Assumes nothing.
 use mathlib.Core.Path.{sym, ◌∙◌}
-use Prim.Native.Nat.{◌-◌}
-use lib.ListN.{length}
 use native.Mathlib.Omega.{arith}
-use borrow.Author.Tests.{not-true, not-false}
 use Rattle.rules.specs.Text.{is_ident_part}
-use Rattle.rules.specs.Scan.{run}
-use Rattle.bridge.proofs.Cuts.{Going, run_more, run_stop, run_end}
+use Rattle.bridge.proofs.Cuts.{run_more, run_stop, run_end}
 use Rattle.names.proofs.Tests.{part_low}
 use Rattle.names.proofs.name_end.Goals as goal
 

@@ -1,5 +1,4 @@
 -- `decimal_at` meets its contract. Assumes nothing.
-use borrow.Author.Rules.{rules}
 use Rattle.numbers.proofs.Numbers.{decimal_word}
 use Rattle.numbers.proofs.decimal_at.Goals as goal
 

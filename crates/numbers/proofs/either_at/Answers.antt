@@ -1,7 +1,6 @@
 -- `either_at` meets its contract. Assumes nothing.
 use mathlib.Core.Path.{sym, ◌∙◌}
 use mathlib.Core.List.{[], ◌∷◌}
-use borrow.Author.Rules.{rules}
 use Rattle.rules.specs.Text.{one_of}
 use Rattle.bridge.proofs.Bytes.{byte_next}
 use Rattle.bridge.proofs.Tests.{two_of_lem, low_two}

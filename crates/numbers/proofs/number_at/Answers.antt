@@ -1,6 +1,5 @@
 -- `number_at` meets its contract. Assumes nothing.
 use mathlib.Core.Path.{sym, ◌∙◌}
-use borrow.Author.Rules.{rules}
 use Rattle.numbers.proofs.Numbers.{hex_there, binary_there, hex_word, binary_word, number_word}
 use Rattle.numbers.proofs.number_at.Goals as goal
 

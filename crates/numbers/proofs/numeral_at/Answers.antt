@@ -1,6 +1,5 @@
 -- `numeral_at` meets its contract. Assumes nothing.
 use mathlib.Core.Path.{ap}
-use borrow.Author.Rules.{rules}
 use Rattle.lexemes.proofs.Words.{kind_told}
 use Rattle.numbers.specs.Numbers.{number_kind}
 use Rattle.numbers.proofs.numeral_at.Goals as goal

@@ -1,7 +1,5 @@
 -- `past_exponent` meets its contract. Assumes nothing.
 use mathlib.Core.Path.{sym, ◌∙◌}
-use borrow.Author.Tests.{not-true, not-false}
-use borrow.Author.Rules.{rules}
 use Rattle.numbers.proofs.Numbers.{power_there, exponent_stop, exponent_cut}
 use Rattle.numbers.proofs.past_exponent.Goals as goal
 

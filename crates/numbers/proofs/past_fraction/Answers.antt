@@ -1,7 +1,5 @@
 -- `past_fraction` meets its contract. Assumes nothing.
 use mathlib.Core.Path.{sym, ◌∙◌}
-use borrow.Author.Tests.{not-true, not-false}
-use borrow.Author.Rules.{rules}
 use Rattle.numbers.proofs.Numbers.{point_there, fraction_stop, fraction_point, fraction_cut}
 use Rattle.numbers.proofs.past_fraction.Goals as goal
 

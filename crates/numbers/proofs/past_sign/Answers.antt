@@ -1,7 +1,6 @@
 -- `past_sign` meets its contract. Assumes nothing.
 use mathlib.Core.Path.{sym, ◌∙◌}
 use mathlib.Core.Bool.{true, false}
-use borrow.Author.Rules.{rules}
 use Rattle.bridge.proofs.Tests.{low_weak}
 use Rattle.bridge.proofs.Bytes.{next_test}
 use Rattle.bridge.proofs.Cuts.{one_more, one_stop}

@@ -1,6 +1,5 @@
 -- `past_suffix` meets its contract. Assumes nothing.
 use mathlib.Core.Path.{sym, ◌∙◌}
-use borrow.Author.Rules.{rules}
 use Rattle.bridge.proofs.Cuts.{one_more, one_stop}
 use Rattle.numbers.specs.Numbers.{is_suffix}
 use Rattle.numbers.proofs.Tests.{suffix_low}

@@ -1,8 +1,6 @@
 -- `zero_then` meets its contract. Assumes nothing.
 use mathlib.Core.Path.{sym, ◌∙◌}
 use mathlib.Core.List.{[], ◌∷◌}
-use borrow.Author.Tests.{not-true, not-false}
-use borrow.Author.Rules.{rules}
 use Rattle.numbers.proofs.Numbers.{zero_none, zero_next}
 use Rattle.numbers.proofs.zero_then.Goals as goal
 

@@ -1,7 +1,6 @@
 -- `output::copy` meets its contract. The invariant: what is still to be written, written from here on, gives what the whole gives
 use Prim.Native.Nat.{◌-◌}
-use borrow.Author.Rules.{rules}
-use Rattle.output.proofs.Buffers.{Copying, copy_start, copy_room, copy_more, copy_end}
+use Rattle.output.proofs.Buffers.{Copying}
 use Rattle.output.proofs.copy.Given as goal
 
 abbrev pub invariant-loop-i : goal.invariant-loop-i

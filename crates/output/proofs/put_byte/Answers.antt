@@ -1,7 +1,6 @@
 -- `output::put_byte` meets its contract. Assumes nothing.
 use mathlib.Core.Path.{refl}
 use native.Mathlib.Omega.{arith}
-use borrow.Author.Rules.{rules}
 use Rattle.output.proofs.Buffers.{byte_outside}
 use Rattle.output.proofs.put_byte.Goals as goal
 

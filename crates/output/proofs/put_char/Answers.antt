@@ -1,7 +1,6 @@
 -- `output::put_char` meets its contract. Where the whole fits it is written at once, and where none of it fits nothing is;
 use mathlib.Core.Path.{sym, ◌∙◌}
 use native.Mathlib.Omega.{arith}
-use borrow.Author.Rules.{rules}
 use Rattle.characters.proofs.Widths.{width_bounds, char_length}
 use Rattle.output.proofs.Buffers.{whole_put, none_put, cut_put}
 use Rattle.output.proofs.put_char.Goals as goal

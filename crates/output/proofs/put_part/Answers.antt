@@ -1,5 +1,4 @@
 -- `output::put_part` meets its contract. Behind the buffer's end nothing is written; else the bytes that fit stand for the whole part.
-use borrow.Author.Rules.{rules}
 use lib.Seq.{length-slice}
 use Rattle.output.proofs.Buffers.{none_put, part_put}
 use Rattle.output.proofs.put_part.Goals as goal

@@ -1,7 +1,6 @@
 -- `output::put_token` meets its contract. Where the whole fits it is written at once, and where none of it fits nothing is;
 use mathlib.Core.Path.{sym, ◌∙◌}
 use native.Mathlib.Omega.{arith}
-use borrow.Author.Rules.{rules}
 use Rattle.records.proofs.Bytes.{length_token}
 use Rattle.output.proofs.Lengths.{record_bounds}
 use Rattle.output.proofs.Buffers.{whole_put, none_put, cut_put}

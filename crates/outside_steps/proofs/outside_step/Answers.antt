@@ -1,6 +1,5 @@
 -- `outside_step` meets its contract.
 use Rattle.outside_steps.proofs.Skipping.{skipped_end, skipped_given}
-use borrow.Author.Rules.{rules}
 use native.Mathlib.Omega.{arith}
 use Rattle.outside_steps.proofs.outside_step.Goals as goal
 

@@ -2,7 +2,6 @@
 use mathlib.Core.Path.{sym, ◌∙◌}
 use Rattle.steps.proofs.Giving.{found_given}
 use Rattle.outside_steps.proofs.Choices.{class_in, word_class, quote_stands, apostrophe_stands, brace_stands, doc_stands}
-use borrow.Author.Rules.{rules}
 use Rattle.outside_steps.proofs.scan_at.Goals as goal
 
 pub other_step-requires : goal.other_step-requires

@@ -1,7 +1,6 @@
 -- `print_docs::put_block_doc` meets its contract. Assumes nothing.
 use mathlib.Core.Path.{refl}
 use native.Mathlib.Omega.{arith}
-use borrow.Author.Rules.{rules}
 use Rattle.text_parts.proofs.Feedless.{nothing_feedless}
 use Rattle.print_docs.proofs.Lining.{step_goes, step_over, block_small, block_put, one_line, line_feedless, more_lines_lem}
 use Rattle.print_docs.proofs.put_block_doc.Goals as goal

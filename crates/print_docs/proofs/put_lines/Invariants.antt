@@ -1,7 +1,6 @@
 -- `print_docs::put_lines` meets its contract. The invariant: what the cursor still gives, written from here on, gives what the whole
-use native.Mathlib.Omega.{arith}
 use Rattle.text_parts.specs.Lines.{left_size}
-use Rattle.print_docs.proofs.Lining.{Lining, line_start, step_goes, step_over, goes_part, line_small, line_more, line_end}
+use Rattle.print_docs.proofs.Lining.{Lining}
 use Rattle.print_docs.proofs.put_lines.Given as goal
 
 abbrev pub invariant-loop-n : goal.invariant-loop-n

@@ -1,7 +1,6 @@
 -- `print_docs::put_part` meets its contract. Assumes nothing.
 use mathlib.Core.Path.{subst}
 use native.Mathlib.Omega.{arith}
-use borrow.Author.Rules.{rules}
 use Rattle.print_docs.specs.Docs.{LinePart}
 use Rattle.print_docs.proofs.Lining.{bytes_put, feed_put, nothing_put}
 use Rattle.print_docs.proofs.put_part.Goals as goal

@@ -1,6 +1,5 @@
 -- `print_docs::put_short` meets its contract. Assumes nothing.
 use native.Mathlib.Omega.{arith}
-use borrow.Author.Rules.{rules}
 use lib.Seq.{slice, length-slice}
 use Rattle.print_docs.proofs.Lining.{short_put}
 use Rattle.print_docs.proofs.put_short.Goals as goal

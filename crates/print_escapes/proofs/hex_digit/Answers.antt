@@ -1,5 +1,4 @@
 -- `print_escapes::hex_digit` meets its contract. Assumes nothing.
-use borrow.Author.Rules.{rules}
 use borrow.Author.Tests.{le-leb, lt-leb}
 use Rattle.prints.specs.Print.{hex_digit}
 use Rattle.print_escapes.proofs.hex_digit.Goals as goal

@@ -1,9 +1,7 @@
 -- `print_escapes::past_bare` meets its contract. The invariant: the bytes up to here stand as they are. Assumes nothing.
 use mathlib.Core.Path.{sym, ◌∙◌}
-use Prim.Native.Nat.{◌-◌}
 use native.Mathlib.Omega.{arith}
-use borrow.Author.Rules.{rules}
-use Rattle.print_escapes.proofs.Walks.{Passing, pass_start, pass_more, pass_stop, pass_end}
+use Rattle.print_escapes.proofs.Walks.{pass_start, pass_more, pass_stop, pass_end}
 use Rattle.print_escapes.proofs.past_bare.Goals as goal
 
 pub loop-at-init : goal.loop-at-init

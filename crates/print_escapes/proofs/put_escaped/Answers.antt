@@ -1,5 +1,4 @@
 -- `print_escapes::put_escaped` meets its contract. Assumes nothing.
-use borrow.Author.Rules.{rules}
 use Rattle.print_escapes.proofs.Bare.{self_put, feed_put, dollar_put, bare_put}
 use Rattle.print_escapes.proofs.put_escaped.Goals as goal
 

@@ -1,7 +1,6 @@
 -- `print_escapes::put_escapes` meets its contract. The invariant: what is still to be written, written from here on, gives what the
 use Prim.Native.Nat.{◌-◌}
-use native.Mathlib.Omega.{arith}
-use Rattle.print_escapes.proofs.Walks.{Escaping, escape_start, escape_small, escape_run, escape_more, escape_end}
+use Rattle.print_escapes.proofs.Walks.{Escaping}
 use Rattle.print_escapes.proofs.put_escapes.Given as goal
 
 abbrev pub invariant-loop-quote : goal.invariant-loop-quote

@@ -1,5 +1,4 @@
 -- `print_escapes::put_letter` meets its contract. Assumes nothing.
-use borrow.Author.Rules.{rules}
 use Rattle.print_escapes.proofs.Literals.{high_put, letter_put, sign_put}
 use Rattle.print_escapes.proofs.put_letter.Goals as goal
 

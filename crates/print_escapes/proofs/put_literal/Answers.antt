@@ -1,6 +1,5 @@
 -- `print_escapes::put_literal` meets its contract. Assumes nothing.
 use native.Mathlib.Omega.{arith}
-use borrow.Author.Rules.{rules}
 use Rattle.print_escapes.proofs.Bare.{unicode_place}
 use Rattle.print_escapes.proofs.Literals.{word_put, plain_put}
 use Rattle.print_escapes.proofs.put_literal.Goals as goal

@@ -1,5 +1,4 @@
 -- `print_escapes::put_unicode` meets its contract. Assumes nothing.
-use borrow.Author.Rules.{rules}
 use Rattle.print_escapes.proofs.Bare.{unicode_put}
 use Rattle.print_escapes.proofs.put_unicode.Goals as goal
 

@@ -1,7 +1,6 @@
 -- `end_at` meets its contract. By the next character. Assumes nothing.
 use mathlib.Core.Path.{sym, subst}
 use mathlib.Core.Bool.{true, false}
-use borrow.Author.Rules.{rules}
 use Rattle.spans.specs.declared.Position.{Position}
 use Rattle.bridge.specs.Bridge.{placed, Within, NextAt}
 use Rattle.print_loop.proofs.Turns.{nothing_left, unexpected_wrong, last_at}

@@ -1,7 +1,6 @@
 -- `next` meets its contract. By what was skipped, and the class of what stands behind it. Assumes nothing.
 use mathlib.Core.Path.{sym, ◌∙◌}
 use native.Mathlib.Omega.{arith}
-use borrow.Author.Rules.{rules}
 use Rattle.print_loop.proofs.Turns.{due_length, skip_open, skip_closed, element_turn, last_turn_lem, wrong_turn, turned_as}
 use Rattle.print_loop.proofs.next.Goals as goal
 

@@ -1,5 +1,4 @@
 -- `put_space` meets its contract. Assumes nothing.
-use borrow.Author.Rules.{rules}
 use Rattle.print_loop.proofs.Turns.{space_put, space_none}
 use Rattle.print_loop.proofs.put_space.Goals as goal
 

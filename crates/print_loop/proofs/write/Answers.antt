@@ -1,8 +1,6 @@
 -- `write` meets its contract: what is still to be written after each turn completes the print, and less of the text is left. Assumes nothing.
 use mathlib.Core.Path.{◌∙◌}
-use Prim.Native.Nat.{◌-◌}
-use lib.ListN.{length}
-use Rattle.print_loop.proofs.Walks.{Walking, walk_start, walk_front, walk_wrong, walk_more, walk_forth, walk_end}
+use Rattle.print_loop.proofs.Walks.{walk_start, walk_front, walk_wrong, walk_more, walk_forth, walk_end}
 use Rattle.print_loop.proofs.write.Goals as goal
 
 pub loop-text-init : goal.loop-text-init

@@ -1,7 +1,6 @@
 -- `comment_at` meets its contract. By the mark that stands there. Assumes nothing.
 use mathlib.Core.Path.{sym, ◌∙◌, ap, subst}
 use native.Mathlib.Omega.{arith}
-use borrow.Author.Rules.{rules}
 use Rattle.spans.specs.declared.Position.{Position}
 use Rattle.rules.specs.Text.{text}
 use Rattle.bridge.specs.Bridge.{placed, Fits, onward}

@@ -1,11 +1,6 @@
 -- `past_blanks` meets its contract. From the beginning to where the loop stands all is passed. Assumes nothing.
-use mathlib.Core.Path.{◌≡◌, sym, ◌∙◌}
-use Prim.Native.Nat.{◌+◌, ◌-◌}
-use lib.ListN.{length, get_or}
+use mathlib.Core.Path.{sym, ◌∙◌}
 use native.Mathlib.Omega.{arith}
-use borrow.Author.Rules.{rules}
-use Rattle.classes.specs.Classes.{class_of}
-use Rattle.print_skips.specs.Gaps.{Passed}
 use Rattle.print_skips.proofs.Passing.{passed_none, passed_join, space_passed}
 use Rattle.print_skips.proofs.past_blanks.Goals as goal
 

@@ -1,11 +1,7 @@
 -- `past_white` meets its contract. From the beginning to where the loop stands all is passed. Assumes nothing.
-use mathlib.Core.Path.{◌∙◌}
 use Prim.Native.Nat.{◌-◌}
 use lib.ListN.{length}
-use native.Mathlib.Omega.{arith}
-use borrow.Author.Rules.{rules}
 use Rattle.print_skips.specs.Gaps.{Passed}
-use Rattle.print_skips.proofs.Passing.{passed_none, passed_join, class_stops}
 use Rattle.print_skips.proofs.past_white.Given as goal
 
 abbrev pub invariant-loop-b : goal.invariant-loop-b

@@ -1,7 +1,6 @@
 -- `past_wide` meets its contract. By the next character. Assumes nothing.
 use mathlib.Core.Path.{sym, ◌∙◌, subst}
 use native.Mathlib.Omega.{arith}
-use borrow.Author.Rules.{rules}
 use Rattle.spans.specs.declared.Position.{Position}
 use Rattle.bridge.specs.Bridge.{placed, Within, NextAt}
 use Rattle.skipping.proofs.Skips.{stops_at, stops_end}

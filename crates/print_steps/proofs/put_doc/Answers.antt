@@ -1,6 +1,5 @@
 -- `put_doc` meets its contract. Assumes nothing.
 use mathlib.Core.Path.{sym, ◌∙◌}
-use borrow.Author.Rules.{rules}
 use Rattle.print_steps.proofs.put_doc.Goals as goal
 
 pub put_line_doc-requires : goal.put_line_doc-requires

@@ -2,7 +2,6 @@
 use mathlib.Core.Path.{sym, ◌∙◌}
 use mathlib.Core.Bool.{true, false}
 use native.Mathlib.Omega.{arith}
-use borrow.Author.Rules.{rules}
 use Rattle.outside_steps.proofs.Choices.{class_in, word_class, quote_stands, apostrophe_stands, brace_stands, doc_stands}
 use Rattle.print_steps.proofs.Telling.{emitted_printed}
 use Rattle.print_steps.proofs.put_element.Goals as goal

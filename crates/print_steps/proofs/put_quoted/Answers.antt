@@ -1,6 +1,5 @@
 -- `put_quoted` meets its contract. Assumes nothing.
 use mathlib.Core.Path.{sym, ◌∙◌}
-use borrow.Author.Rules.{rules}
 use Rattle.print_steps.proofs.put_quoted.Goals as goal
 
 pub put_raw-requires : goal.put_raw-requires

@@ -1,5 +1,4 @@
 -- `print_strings::put_bytes` meets its contract. Assumes nothing.
-use borrow.Author.Rules.{rules}
 use Rattle.print_escapes.proofs.Bare.{put_same}
 use Rattle.print_strings.proofs.put_bytes.Goals as goal
 

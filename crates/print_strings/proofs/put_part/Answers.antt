@@ -1,6 +1,5 @@
 -- `print_strings::put_part` meets its contract. Assumes nothing.
 use mathlib.Core.Path.{subst}
-use borrow.Author.Rules.{rules}
 use Rattle.text_parts.specs.Parts.{PartWithin}
 use Rattle.print_strings.proofs.Rows.{part_put, nothing_put, bare_by}
 use Rattle.print_strings.proofs.put_part.Goals as goal

@@ -1,5 +1,4 @@
 -- `print_strings::put_parting` meets its contract. Assumes nothing.
-use borrow.Author.Rules.{rules}
 use Rattle.output.proofs.Buffers.{put_none}
 use Rattle.prints.specs.Print.{parting}
 use Rattle.print_strings.proofs.put_parting.Goals as goal

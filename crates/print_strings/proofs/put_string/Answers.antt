@@ -1,14 +1,7 @@
 -- `print_strings::put_string` meets its contract. The invariant: the string was written up to here, and what is still to be written
 use mathlib.Core.Path.{◌∙◌, sym}
-use mathlib.Core.List.{List, [], ◌∷◌}
-use Prim.Native.Nat.{ℕ, ◌-◌}
 use native.Mathlib.Omega.{arith}
-use lib.ListN.{length}
-use borrow.Author.Rules.{rules}
-use borrow.Author.Tests.{not-true, not-false}
-use Rattle.rules.specs.Text.{ch}
-use Rattle.output.specs.Writing.{Put}
-use Rattle.print_strings.proofs.Loops.{StringingAt, string_begin, at_within, at_small, at_length, at_bad, at_room, row_within, at_closed, at_stuck, at_open, at_more, at_less, emitted_wrong}
+use Rattle.print_strings.proofs.Loops.{string_begin, at_within, at_small, at_length, at_bad, at_room, row_within, at_closed, at_stuck, at_open, at_more, at_less, emitted_wrong}
 use Rattle.print_strings.proofs.put_string.Goals as goal
 
 pub overflow_add-c : goal.overflow_add-c

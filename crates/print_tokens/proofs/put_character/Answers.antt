@@ -2,7 +2,6 @@
 use mathlib.Core.Path.{◌≡◌, refl, sym, subst}
 use mathlib.Core.Bool.{true}
 use native.Mathlib.Omega.{arith}
-use borrow.Author.Rules.{rules}
 use Rattle.characters.specs.Utf8.{chars_at}
 use Rattle.spans.specs.declared.Position.{Position}
 use Rattle.rules.specs.Text.{ch}

@@ -1,6 +1,5 @@
 -- `print_tokens::put_made` meets its contract. Assumes nothing.
 use native.Mathlib.Omega.{arith}
-use borrow.Author.Rules.{rules}
 use lib.Seq.{slice, length-slice}
 use Rattle.rules.specs.Text.{ch}
 use Rattle.print_escapes.proofs.Sizes.{escapes_length}

@@ -5,7 +5,6 @@ use Prim.Native.Nat.{ℕ, suc, ◌-◌, ◌≤◌}
 use native.Mathlib.Omega.{arith}
 use lib.ListN.{length, get_or}
 use lib.Seq.{slice, slice-cons, slice_empty}
-use borrow.Author.Rules.{rules}
 use Rattle.output.specs.Writing.{Put}
 use Rattle.print_words.proofs.put_text.Goals as goal
 

@@ -1,6 +1,5 @@
 -- `put_word` meets its contract. Assumes nothing.
 use mathlib.Core.Path.{refl}
-use borrow.Author.Rules.{rules}
 use Rattle.print_words.proofs.Emitted.{ends_emits}
 use Rattle.print_words.proofs.put_word.Goals as goal
 

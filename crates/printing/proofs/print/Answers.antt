@@ -1,11 +1,10 @@
 -- `print` meets its contract: by the questions one after another. Assumes nothing.
 use mathlib.Core.Path.{◌≡◌, sym, ◌∙◌}
-use mathlib.Core.Bool.{Bool, true, false}
+use mathlib.Core.Bool.{true, false}
 use Prim.Native.Nat.{ℕ, suc, ◌≤◌}
 use lib.Dec.{leb}
 use native.Mathlib.Omega.{arith}
 use lib.ListN.{length}
-use borrow.Author.Rules.{rules}
 use borrow.Author.Tests.{leb-true, leb-false}
 use Rattle.questions.proofs.Questions.{yes_accepted}
 use Rattle.printing.proofs.Laws.{by_mistake, by_print, by_none, print_refused, print_mistake, print_short, print_done}

@@ -1,7 +1,6 @@
 -- `ask_text` meets its contract. Assumes nothing.
 use mathlib.Core.Path.{sym, ◌∙◌}
 use Rattle.questions.proofs.Questions.{text_long, text_valid, text_bad}
-use borrow.Author.Rules.{rules}
 use Rattle.questions.proofs.ask_text.Goals as goal
 
 pub returns-then-script-gt-LIMIT : goal.returns-then-script-gt-LIMIT

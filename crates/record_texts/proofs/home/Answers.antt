@@ -1,6 +1,5 @@
 use mathlib.Core.Path.{sym, ◌∙◌}
 use Rattle.record_texts.proofs.TextLaws.{home_made, home_script, place_made, place_script}
-use borrow.Author.Rules.{rules}
 use Rattle.record_texts.proofs.home.Goals as goal
 
 pub returns-then-is_made : goal.returns-then-is_made

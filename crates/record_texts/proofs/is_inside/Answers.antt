@@ -1,6 +1,5 @@
 use mathlib.Core.Path.{sym}
 use Rattle.record_texts.proofs.TextLaws.{inside_past, inside_same}
-use borrow.Author.Rules.{rules}
 use Rattle.record_texts.proofs.is_inside.Goals as goal
 
 pub returns-then-s-offset : goal.returns-then-s-offset

@@ -1,6 +1,5 @@
 use mathlib.Core.Path.{sym, ◌∙◌}
 use Rattle.record_texts.proofs.TextLaws.{inside_room, part_inside, part_none, place_inside, place_none}
-use borrow.Author.Rules.{rules}
 use native.Mathlib.Omega.{arith}
 use Rattle.record_texts.proofs.part.Goals as goal
 

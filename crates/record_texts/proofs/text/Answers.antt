@@ -1,7 +1,5 @@
 use mathlib.Core.Path.{sym, ◌∙◌}
-use borrow.Author.Tests.{not-true, not-false}
 use Rattle.record_texts.proofs.TextLaws.{text_none, text_fixed, text_part, text_none_place, text_fixed_place, text_part_place}
-use borrow.Author.Rules.{rules}
 use Rattle.record_texts.proofs.text.Goals as goal
 
 pub returns-then-not-is_whole : goal.returns-then-not-is_whole

@@ -1,7 +1,5 @@
 use mathlib.Core.Path.{sym, ◌∙◌}
-use borrow.Author.Tests.{not-true, not-false}
 use Rattle.record_texts.proofs.TextLaws.{check_none, check_fixed, check_inside, check_outside}
-use borrow.Author.Rules.{rules}
 use Rattle.record_texts.proofs.text_check.Goals as goal
 
 pub returns-then-not-is_whole : goal.returns-then-not-is_whole

@@ -1,7 +1,6 @@
 use lib.ListN.{length-set}
 use Rattle.records.specs.Records.{le32}
 use Rattle.records.proofs.Sets.{sets4}
-use borrow.Author.Rules.{rules}
 use native.Mathlib.Omega.{arith}
 use Rattle.record_writing.proofs.put32.Goals as goal
 

@@ -1,7 +1,6 @@
 use mathlib.Core.Path.{sym, ◌∙◌}
 use Rattle.records.proofs.KindLaws.{length_code, length_bare}
 use Rattle.records.proofs.Bytes.{error_code, error_bare}
-use borrow.Author.Rules.{rules}
 use native.Mathlib.Omega.{arith}
 use Rattle.record_writing.proofs.put_error.Goals as goal
 

@@ -2,7 +2,6 @@ use mathlib.Core.Path.{refl}
 use mathlib.Core.List.{[], ◌∷◌}
 use Rattle.records.specs.Records.{head_bytes, span_bytes}
 use Rattle.characters.proofs.Buffers.{sets_more}
-use borrow.Author.Rules.{rules}
 use Rattle.record_writing.proofs.put_head.Goals as goal
 
 pub returns : goal.returns

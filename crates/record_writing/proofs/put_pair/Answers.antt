@@ -1,7 +1,6 @@
 use mathlib.Core.Path.{refl}
 use Rattle.records.specs.Records.{le32, pair_bytes}
 use Rattle.characters.proofs.Buffers.{sets_more}
-use borrow.Author.Rules.{rules}
 use Rattle.record_writing.proofs.put_pair.Goals as goal
 
 pub returns : goal.returns

@@ -2,7 +2,6 @@ use mathlib.Core.Path.{refl}
 use mathlib.Core.List.{◌++◌}
 use Rattle.records.specs.Records.{le32, pair_bytes, span_bytes}
 use Rattle.characters.proofs.Buffers.{sets_more}
-use borrow.Author.Rules.{rules}
 use Rattle.record_writing.proofs.put_span.Goals as goal
 
 pub returns : goal.returns

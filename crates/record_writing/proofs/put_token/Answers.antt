@@ -1,7 +1,6 @@
 use mathlib.Core.Path.{sym, ◌∙◌}
 use Rattle.records.proofs.KindLaws.{length_text, length_plain}
 use Rattle.records.proofs.Bytes.{token_text_lem, token_plain}
-use borrow.Author.Rules.{rules}
 use native.Mathlib.Omega.{arith}
 use Rattle.record_writing.proofs.put_token.Goals as goal
 

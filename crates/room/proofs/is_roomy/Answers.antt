@@ -1,7 +1,6 @@
 -- `is_roomy` meets its contract. Assumes nothing.
 use mathlib.Core.Path.{refl}
 use Rattle.room.specs.Room.{most_tokens, most_texts, most_errors, roomy}
-use borrow.Author.Rules.{rules}
 use Rattle.room.proofs.is_roomy.Goals as goal
 
 pub returns : goal.returns

@@ -1,7 +1,6 @@
 -- `enter` meets its contract.
 use mathlib.Core.Path.{refl}
 use native.Mathlib.Omega.{arith}
-use borrow.Author.Rules.{rules}
 use Rattle.steps.proofs.Giving.{found_gives}
 use Rattle.scanner.proofs.Stepping.{stepped_piece, stepped_end, begins_outside, begins_inside, entry_is}
 use Rattle.string_tokens.proofs.Insides.{later_found, over_is, over_given}

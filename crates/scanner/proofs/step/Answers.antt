@@ -1,5 +1,4 @@
 -- `step` meets its contract.
-use borrow.Author.Rules.{rules}
 use Rattle.scanner.proofs.Stepping.{entered_known, entered_begun}
 use Rattle.scanner.proofs.step.Goals as goal
 

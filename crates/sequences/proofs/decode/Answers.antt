@@ -2,7 +2,6 @@
 use mathlib.Core.Path.{◌∙◌, sym}
 use Rattle.characters.proofs.Sequences.{decode_end, decode_seq}
 use Rattle.characters.proofs.Decoding.{decode_ascii}
-use borrow.Author.Rules.{rules}
 use Rattle.sequences.proofs.decode.Goals as goal
 
 pub returns-then-text-at : goal.returns-then-text-at

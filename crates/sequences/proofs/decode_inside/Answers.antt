@@ -1,7 +1,6 @@
 -- `sequences::decode_inside` meets its contract. Assumes nothing.
 use mathlib.Core.Path.{◌∙◌, sym}
 use Rattle.characters.proofs.Sequences.{decode_seq}
-use borrow.Author.Rules.{rules}
 use native.Mathlib.Omega.{arith}
 use Rattle.sequences.proofs.decode_inside.Goals as goal
 

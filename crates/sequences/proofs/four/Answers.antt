@@ -2,7 +2,6 @@
 use mathlib.Core.Path.{◌∙◌, sym}
 use Rattle.characters.specs.Utf8.{four_of}
 use Rattle.characters.proofs.Sequences.{tail_bounds, second_bounds}
-use borrow.Author.Rules.{rules}
 use Rattle.sequences.proofs.four.Goals as goal
 
 pub code_four-requires : goal.code_four-requires

@@ -2,7 +2,6 @@
 use borrow.Author.Tests.{eq-eqb, ne_eqb}
 use mathlib.Core.Path.{◌∙◌}
 use Rattle.characters.specs.Utf8.{second_ok}
-use borrow.Author.Rules.{rules}
 use Rattle.sequences.proofs.second_ok.Goals as goal
 
 pub returns-then-a-eq224 : goal.returns-then-a-eq224

@@ -1,7 +1,6 @@
 -- `sequences::sequence_of` meets its contract. Assumes nothing.
 use mathlib.Core.Path.{◌∙◌, sym}
 use Rattle.characters.proofs.Sequences.{seq_one, seq_low, seq_two, seq_three, seq_four, seq_high}
-use borrow.Author.Rules.{rules}
 use Rattle.sequences.proofs.sequence_of.Goals as goal
 
 pub returns-then-a-le127 : goal.returns-then-a-le127

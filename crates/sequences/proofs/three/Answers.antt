@@ -2,8 +2,6 @@
 use mathlib.Core.Path.{◌∙◌, sym}
 use Rattle.characters.specs.Utf8.{three_of}
 use Rattle.characters.proofs.Sequences.{tail_bounds, second_bounds}
-use borrow.Author.Rules.{rules}
-use native.Mathlib.Omega.{arith}
 use Rattle.sequences.proofs.three.Goals as goal
 
 pub code_three-requires : goal.code_three-requires

@@ -2,7 +2,6 @@
 use mathlib.Core.Path.{◌∙◌, sym}
 use Rattle.characters.specs.Utf8.{two_of}
 use Rattle.characters.proofs.Sequences.{tail_bounds}
-use borrow.Author.Rules.{rules}
 use native.Mathlib.Omega.{arith}
 use Rattle.sequences.proofs.two.Goals as goal
 

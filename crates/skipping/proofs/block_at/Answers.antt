@@ -2,7 +2,6 @@
 use mathlib.Core.Path.{sym, ◌∙◌}
 use Rattle.skipping.proofs.Slashes.{slash, star, third_there, block_closed, block_yes, block_no}
 use Rattle.walks.proofs.Starts.{pair_there}
-use borrow.Author.Rules.{rules}
 use native.Mathlib.Omega.{arith}
 use Rattle.skipping.proofs.block_at.Goals as goal
 

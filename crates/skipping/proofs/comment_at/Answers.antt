@@ -5,7 +5,6 @@ use Rattle.rules.specs.Text.{text}
 use Rattle.skipping.specs.Skips.{PastComment}
 use Rattle.walks.proofs.Enclosed.{begin_reach}
 use Rattle.skipping.proofs.Comments.{line_starts, block_starts, line_past, block_past}
-use borrow.Author.Rules.{rules}
 use native.Mathlib.Omega.{arith}
 use Rattle.skipping.proofs.comment_at.Goals as goal
 

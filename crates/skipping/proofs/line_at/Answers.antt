@@ -2,7 +2,6 @@
 use mathlib.Core.Path.{sym, ◌∙◌}
 use Rattle.skipping.proofs.Slashes.{slash, line_yes, line_no}
 use Rattle.walks.proofs.Starts.{pair_there}
-use borrow.Author.Rules.{rules}
 use native.Mathlib.Omega.{arith}
 use Rattle.skipping.proofs.line_at.Goals as goal
 

@@ -1,12 +1,9 @@
 -- `walks::skip::past_blanks` meets its contract. Whatever ends the run from where the loop stands ends it from its beginning. Assumes nothing.
 use Prim.Native.Nat.{◌-◌}
 use lib.ListN.{length}
-use borrow.Author.Tests.{ne_eqb, eq-eqb}
 use Rattle.rules.specs.Scan.{run}
 use Rattle.bridge.specs.Bridge.{exactly}
-use Rattle.bridge.proofs.Cuts.{Going, run_more, run_stop, run_end}
-use Rattle.skipping.proofs.Skips.{blank_low}
-use native.Mathlib.Omega.{arith}
+use Rattle.bridge.proofs.Cuts.{Going}
 use Rattle.skipping.proofs.past_blanks.Given as goal
 
 abbrev pub invariant-loop-at : goal.invariant-loop-at

@@ -1,12 +1,10 @@
 -- `walks::skip::skip` meets its contract. From the beginning to where the loop stands nothing is yielded; the buffer is as it was. Assumes nothing.
-use mathlib.Core.Path.{◌≡◌, refl, ◌∙◌, ap, subst}
-use Prim.Native.Nat.{◌-◌}
+use mathlib.Core.Path.{refl, ◌∙◌, ap, subst}
 use lib.ListN.{length}
 use borrow.Author.Tests.{not-true, not-false}
 use Rattle.output.proofs.Buffers.{put_length}
 use Rattle.skipping.specs.Skips.{CommentAt}
-use Rattle.skipping.proofs.Skips.{Gap, gap_nil, gap_join, white_is_gap, comment_gap, skipped_all, skipped_open}
-use borrow.Author.Rules.{rules}
+use Rattle.skipping.proofs.Skips.{gap_nil, gap_join, white_is_gap, comment_gap, skipped_all, skipped_open}
 use native.Mathlib.Omega.{arith}
 use Rattle.skipping.proofs.skip.Goals as goal
 

@@ -1,7 +1,6 @@
 -- `walks::skip::skip_some` meets its contract. By the first byte. Assumes nothing.
 use mathlib.Core.Path.{sym, ◌∙◌, ap, subst}
 use borrow.Author.Rules.{rules}
-use borrow.Author.Tests.{not-true, not-false}
 use native.Mathlib.Omega.{arith}
 use Rattle.characters.specs.Space.{is_white}
 use Rattle.characters.proofs.Widths.{width_one}

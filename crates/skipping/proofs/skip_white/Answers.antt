@@ -1,9 +1,7 @@
 -- `walks::skip::skip_white` meets its contract. From the beginning to where the loop stands nothing is yielded. Assumes nothing.
 use mathlib.Core.Path.{sym, ◌∙◌}
-use Prim.Native.Nat.{◌-◌}
-use lib.ListN.{length}
 use Rattle.bridge.proofs.Reaches.{within_fits}
-use Rattle.skipping.proofs.Skips.{Gap, gap_nil, gap_join, gap_blanks, blanks_place, blanks_end, some_gap}
+use Rattle.skipping.proofs.Skips.{gap_nil, gap_join, gap_blanks, blanks_place, blanks_end, some_gap}
 use native.Mathlib.Omega.{arith}
 use Rattle.skipping.proofs.skip_white.Goals as goal
 

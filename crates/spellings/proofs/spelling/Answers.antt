@@ -1,6 +1,5 @@
 use mathlib.Core.Path.{refl}
 use Rattle.spellings.specs.Spelling.{spellings, padded, joined, spelling_table}
-use borrow.Author.Rules.{rules}
 use Rattle.spellings.proofs.spelling.Goals as goal
 
 pub spelling_in-requires : goal.spelling_in-requires

@@ -1,6 +1,5 @@
 use mathlib.Core.Path.{sym}
 use Rattle.spellings.proofs.Rows.{row_of, row_none}
-use borrow.Author.Rules.{rules}
 use native.Mathlib.Omega.{arith}
 use Rattle.spellings.proofs.spelling_in.Goals as goal
 

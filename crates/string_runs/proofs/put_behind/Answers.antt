@@ -1,5 +1,4 @@
 use Rattle.string_runs.proofs.RunLaws.{behind_put}
-use borrow.Author.Rules.{rules}
 use Rattle.string_runs.proofs.put_behind.Goals as goal
 
 pub returns : goal.returns

@@ -1,8 +1,5 @@
-use Prim.Native.Nat.{◌-◌, ◌≤◌}
-use lib.ListN.{length}
 use Rattle.bridge.proofs.Reaches.{within_fits}
 use Rattle.output.proofs.Buffers.{put_length}
-use Rattle.string_runs.specs.Runs.{Wrote}
 use Rattle.string_runs.proofs.Rows.{units_short, wrote_start, wrote_few, wrote_more}
 use native.Mathlib.Omega.{arith}
 use Rattle.string_runs.proofs.put_escapes.Goals as goal

@@ -2,7 +2,6 @@ use mathlib.Core.Path.{subst}
 use Rattle.output.proofs.Buffers.{put_none}
 use Rattle.string_units.specs.Units.{IsChar}
 use Rattle.string_runs.proofs.RunLaws.{made_put}
-use borrow.Author.Rules.{rules}
 use Rattle.string_runs.proofs.put_made.Goals as goal
 
 pub put_char-requires : goal.put_char-requires

@@ -1,7 +1,6 @@
 use Rattle.output.proofs.Buffers.{put_none}
 use Rattle.records.specs.Layout.{error_bytes}
 use Rattle.string_runs.proofs.RunLaws.{mistake_put, unicode_put, escape_put}
-use borrow.Author.Rules.{rules}
 use Rattle.string_runs.proofs.put_mistake.Goals as goal
 
 pub returns-in-None : goal.returns-in-None

@@ -1,7 +1,4 @@
-use Prim.Native.Nat.{◌-◌, ◌≤◌}
-use lib.ListN.{length}
 use Rattle.output.proofs.Buffers.{put_length}
-use Rattle.string_runs.specs.Runs.{Wrote}
 use Rattle.string_runs.proofs.Rows.{units_plain, wrote_start, wrote_few, wrote_more, wrote_join}
 use native.Mathlib.Omega.{arith}
 use Rattle.string_runs.proofs.put_simple.Goals as goal

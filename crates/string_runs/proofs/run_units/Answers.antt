@@ -1,11 +1,8 @@
 use mathlib.Core.Path.{subst}
-use Prim.Native.Nat.{◌-◌}
-use lib.ListN.{length}
 use Rattle.bridge.proofs.Reaches.{within_fits}
 use Rattle.output.proofs.Buffers.{put_length}
 use Rattle.string_units.specs.Units.{FoundAt}
-use Rattle.string_runs.proofs.Rows.{Sofar, sofar_start, sofar_room, sofar_wrote, sofar_unit, sofar_stop}
-use borrow.Author.Rules.{rules}
+use Rattle.string_runs.proofs.Rows.{sofar_start, sofar_room, sofar_wrote, sofar_unit, sofar_stop}
 use native.Mathlib.Omega.{arith}
 use Rattle.string_runs.proofs.run_units.Goals as goal
 

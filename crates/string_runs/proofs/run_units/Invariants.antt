@@ -1,12 +1,6 @@
-use mathlib.Core.Path.{subst}
 use Prim.Native.Nat.{◌-◌}
 use lib.ListN.{length}
-use Rattle.bridge.proofs.Reaches.{within_fits}
-use Rattle.output.proofs.Buffers.{put_length}
-use Rattle.string_units.specs.Units.{FoundAt}
-use Rattle.string_runs.proofs.Rows.{Sofar, sofar_start, sofar_room, sofar_wrote, sofar_unit, sofar_stop}
-use borrow.Author.Rules.{rules}
-use native.Mathlib.Omega.{arith}
+use Rattle.string_runs.proofs.Rows.{Sofar}
 use Rattle.string_runs.proofs.run_units.Given as goal
 
 abbrev pub invariant-loop-u : goal.invariant-loop-u

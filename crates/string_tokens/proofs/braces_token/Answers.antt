@@ -2,7 +2,6 @@
 use Rattle.steps.proofs.Founds.{clean_found}
 use mathlib.Core.Path.{refl}
 use Rattle.records.proofs.KindLaws.{interp_made}
-use borrow.Author.Rules.{rules}
 use Rattle.string_tokens.proofs.braces_token.Goals as goal
 
 pub returns : goal.returns

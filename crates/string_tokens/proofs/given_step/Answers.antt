@@ -1,5 +1,4 @@
 -- `given_step` meets its contract.
-use borrow.Author.Rules.{rules}
 use Rattle.string_tokens.proofs.given_step.Goals as goal
 
 pub returns-in-Outside : goal.returns-in-Outside

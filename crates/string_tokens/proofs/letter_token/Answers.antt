@@ -1,7 +1,6 @@
 -- `letter_token` meets its contract.
 use Rattle.steps.proofs.Founds.{made_found}
 use Rattle.records.proofs.KindLaws.{char_made}
-use borrow.Author.Rules.{rules}
 use native.Mathlib.Omega.{arith}
 use Rattle.string_tokens.proofs.letter_token.Goals as goal
 

@@ -1,6 +1,5 @@
 -- `quote_token` meets its contract.
 use mathlib.Core.Path.{sym, ◌∙◌}
-use borrow.Author.Rules.{rules}
 use Rattle.string_tokens.proofs.quote_token.Goals as goal
 
 pub raw_token-requires : goal.raw_token-requires

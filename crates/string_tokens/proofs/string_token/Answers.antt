@@ -1,7 +1,6 @@
 -- `string_token` meets its contract.
 use Rattle.string_tokens.proofs.Insides.{never_over, first_found}
 use Rattle.bridge.proofs.Reaches.{one_on}
-use borrow.Author.Rules.{rules}
 use native.Mathlib.Omega.{arith}
 use Rattle.string_tokens.proofs.string_token.Goals as goal
 

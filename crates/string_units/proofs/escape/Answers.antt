@@ -6,7 +6,6 @@ use Rattle.bridge.specs.Bridge.{NextAt, Reach}
 use Rattle.string_units.specs.Units.{UnitAt}
 use Rattle.escapes.proofs.Digits.{value_some, value_none}
 use Rattle.string_units.proofs.UnitLaws.{escape_end, two, escape_unicode, escape_char, escape_kept}
-use borrow.Author.Rules.{rules}
 use Rattle.string_units.proofs.escape.Goals as goal
 
 pub returns-in_default : goal.returns-in_default

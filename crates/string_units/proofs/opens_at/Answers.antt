@@ -3,7 +3,6 @@ use Rattle.rules.specs.Strings.{is_interp_start}
 use Rattle.bridge.proofs.Tests.{low_weak}
 use Rattle.bridge.proofs.Bytes.{byte_next}
 use Rattle.string_units.proofs.Opens.{interp_low}
-use borrow.Author.Rules.{rules}
 use Rattle.string_units.proofs.opens_at.Goals as goal
 
 pub returns : goal.returns

@@ -1,7 +1,6 @@
 use mathlib.Core.Path.{sym, ◌∙◌}
 use Rattle.escapes.proofs.Digits.{value_some, value_none}
 use Rattle.string_units.proofs.UnitLaws.{unicode_bad, unicode_char, unicode_none}
-use borrow.Author.Rules.{rules}
 use Rattle.string_units.proofs.unicode.Goals as goal
 
 pub returns-in_default : goal.returns-in_default

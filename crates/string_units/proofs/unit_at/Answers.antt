@@ -3,7 +3,6 @@ use Prim.Native.Nat.{ℕ}
 use mathlib.Core.List.{[], ◌∷◌}
 use Rattle.bridge.specs.Bridge.{NextAt, Reach}
 use Rattle.string_units.proofs.UnitLaws.{no_feed, no_quote, no_opening, stands_escape, stands_dollar, stands_plain, stands_none, none_at, some_at, plain_at}
-use borrow.Author.Rules.{rules}
 use Rattle.string_units.proofs.unit_at.Goals as goal
 
 pub returns-in_default : goal.returns-in_default

@@ -1,5 +1,4 @@
 -- `utf8_check::ascii16` meets its contract. Assumes nothing.
-use borrow.Author.Rules.{rules}
 use Rattle.utf8_check.proofs.Check.{ascii_block}
 use Rattle.utf8_check.proofs.ascii16.Goals as goal
 

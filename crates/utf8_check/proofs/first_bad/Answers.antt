@@ -1,11 +1,8 @@
 -- `utf8_check::first_bad` meets its contract. Assumes nothing.
 use mathlib.Core.Path.{◌∙◌, sym, subst}
-use Prim.Native.Nat.{◌-◌}
-use lib.ListN.{length}
-use Rattle.utf8_check.specs.Check.{Clean, Progressed}
+use Rattle.utf8_check.specs.Check.{Progressed}
 use Rattle.characters.proofs.Characters.{bad_start}
 use Rattle.utf8_check.proofs.Check.{clean_none, clean_then}
-use borrow.Author.Rules.{rules}
 use native.Mathlib.Omega.{arith}
 use Rattle.utf8_check.proofs.first_bad.Goals as goal
 

@@ -1,11 +1,6 @@
 -- `utf8_check::past_ascii` meets its contract. Assumes nothing.
 use mathlib.Core.Path.{◌∙◌, sym}
-use Prim.Native.Nat.{◌-◌}
-use lib.ListN.{length}
-use Rattle.utf8_check.specs.Check.{Clean}
 use Rattle.utf8_check.proofs.Check.{clean_none, clean_then, clean_ascii}
-use borrow.Author.Rules.{rules}
-use borrow.Author.Tests.{not-false}
 use native.Mathlib.Omega.{arith}
 use Rattle.utf8_check.proofs.past_ascii.Goals as goal
 

@@ -1,6 +1,5 @@
 -- `utf8_classes::bad_class` meets its contract. Assumes nothing.
 use mathlib.Core.Path.{sym, ◌∙◌}
-use borrow.Author.Rules.{rules}
 use Rattle.utf8_classes.proofs.Classes.{at_end, at_cut, at_barred, at_other}
 use Rattle.utf8_classes.proofs.bad_class.Goals as goal
 

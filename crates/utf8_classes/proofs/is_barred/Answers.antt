@@ -1,7 +1,6 @@
 -- `utf8_classes::is_barred` meets its contract. Assumes nothing.
 use mathlib.Core.Path.{sym}
 use Rattle.utf8_classes.proofs.Classes.{barred_short, barred_two}
-use borrow.Author.Rules.{rules}
 use Rattle.utf8_classes.proofs.is_barred.Goals as goal
 
 pub returns-then-text-lt2 : goal.returns-then-text-lt2

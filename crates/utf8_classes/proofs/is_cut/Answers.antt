@@ -1,7 +1,6 @@
 -- `utf8_classes::is_cut` meets its contract. Assumes nothing.
 use mathlib.Core.Path.{sym, ◌∙◌}
 use Rattle.utf8_classes.proofs.Classes.{cut_one, cut_two, cut_three, cut_never}
-use borrow.Author.Rules.{rules}
 use Rattle.utf8_classes.proofs.is_cut.Goals as goal
 
 pub returns-then-text-eq1 : goal.returns-then-text-eq1

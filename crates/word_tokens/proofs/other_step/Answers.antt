@@ -4,7 +4,6 @@ use Rattle.bridge.specs.Bridge.{NextAt}
 use Rattle.skipping.proofs.Stops.{kept_white}
 use Rattle.steps.proofs.Giving.{end_gives, found_given}
 use Rattle.word_tokens.proofs.Others.{other_nothing}
-use borrow.Author.Rules.{rules}
 use Rattle.word_tokens.proofs.other_step.Goals as goal
 
 pub returns-in_default : goal.returns-in_default

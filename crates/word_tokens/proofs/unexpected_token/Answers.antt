@@ -1,6 +1,5 @@
 -- `unexpected_token` meets its contract.
 use Rattle.steps.proofs.Founds.{part_found}
-use borrow.Author.Rules.{rules}
 use Rattle.word_tokens.proofs.unexpected_token.Goals as goal
 
 pub returns : goal.returns

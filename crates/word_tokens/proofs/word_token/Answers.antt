@@ -1,7 +1,6 @@
 -- `word_token` meets its contract.
 use Rattle.word_tokens.proofs.Words.{word_found}
 use Rattle.word_tokens.proofs.Begun.{word_kind}
-use borrow.Author.Rules.{rules}
 use Rattle.word_tokens.proofs.word_token.Goals as goal
 
 pub returns : goal.returns

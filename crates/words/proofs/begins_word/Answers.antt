@@ -1,5 +1,4 @@
 -- `begins_word` meets its contract. Assumes nothing.
-use borrow.Author.Rules.{rules}
 use Rattle.words.proofs.Begins.{begins_dollar, begins_slash, begins_other}
 use Rattle.words.proofs.begins_word.Goals as goal
 

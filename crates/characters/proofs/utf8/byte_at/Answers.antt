@@ -1,7 +1,6 @@
 -- `utf8::byte_at` meets its contract. Assumes nothing.
 use mathlib.Core.Path.{sym}
 use lib.ListN.{get_or-eq_default}
-use borrow.Author.Rules.{rules}
 use Rattle.characters.proofs.utf8.byte_at.Goals as goal
 
 pub returns-else-at-text : goal.returns-else-at-text

@@ -3,7 +3,6 @@ use mathlib.Core.Path.{◌∙◌, sym}
 use Rattle.characters.proofs.Sequences.{decode_end}
 use Rattle.characters.proofs.Decoding.{decode_ascii}
 use Rattle.characters.proofs.Valids.{two_low, two_second, two_inside, two_is, three_second, three_third, three_inside, three_is, four_second, four_third, four_fourth, four_inside, four_is}
-use borrow.Author.Rules.{rules}
 use native.Mathlib.Omega.{arith}
 use Rattle.characters.proofs.utf8.decode_valid.Goals as goal
 

@@ -1,6 +1,5 @@
 -- `utf8::is_tail` meets its contract. Assumes nothing.
 use Rattle.characters.specs.Utf8.{is_tail}
-use borrow.Author.Rules.{rules}
 use Rattle.characters.proofs.utf8.is_tail.Goals as goal
 
 pub returns : goal.returns

@@ -1,7 +1,6 @@
 use mathlib.Core.Path.{sym, ◌∙◌}
 use Rattle.record_reading.proofs.Places.{error_head, error_tail, error_code_at, error_bare_at}
 use Rattle.record_reading.specs.Reading.{kind_at}
-use borrow.Author.Rules.{rules}
 use native.Mathlib.Omega.{arith}
 use Rattle.record_reading.proofs.errors.error_at.Goals as goal
 

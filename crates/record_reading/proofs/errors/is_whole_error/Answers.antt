@@ -1,7 +1,6 @@
 use mathlib.Core.Path.{sym}
 use Rattle.record_reading.proofs.Places.{error_past, error_low, error_high, error_known}
 use Rattle.record_reading.specs.Reading.{kind_at}
-use borrow.Author.Rules.{rules}
 use Rattle.record_reading.proofs.errors.is_whole_error.Goals as goal
 
 pub returns-then-s-at : goal.returns-then-s-at

@@ -4,7 +4,6 @@ use mathlib.Core.Path.{sym, ◌∙◌, ap}
 use Rattle.record_reading.proofs.Turns.{error_got, error_stop}
 use Rattle.record_reading.proofs.Places.{error_room}
 use Rattle.record_reading.specs.Reading.{error_at}
-use borrow.Author.Rules.{rules}
 use native.Mathlib.Omega.{arith}
 use Rattle.record_reading.proofs.errors.next_error.Goals as goal
 

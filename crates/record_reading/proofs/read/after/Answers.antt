@@ -1,6 +1,5 @@
 use Rattle.record_reading.proofs.Places.{whole_head, whole_room, after_eof, after_other}
 use Rattle.record_reading.specs.Reading.{kind_at}
-use borrow.Author.Rules.{rules}
 use native.Mathlib.Omega.{arith}
 use Rattle.record_reading.proofs.read.after.Goals as goal
 

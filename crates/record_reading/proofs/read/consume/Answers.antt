@@ -1,7 +1,5 @@
 use mathlib.Core.Path.{sym, ◌∙◌}
-use borrow.Author.Tests.{not-true, not-false}
 use Rattle.record_reading.proofs.Turns.{consume_got, consume_unknown, consume_stop}
-use borrow.Author.Rules.{rules}
 use Rattle.record_reading.proofs.read.consume.Goals as goal
 
 pub returns-then-not-is_kind : goal.returns-then-not-is_kind

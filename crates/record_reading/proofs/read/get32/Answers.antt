@@ -1,5 +1,4 @@
 use Rattle.record_reading.specs.Reading.{num32}
-use borrow.Author.Rules.{rules}
 use native.Mathlib.Omega.{arith}
 use Rattle.record_reading.proofs.read.get32.Goals as goal
 

@@ -1,5 +1,4 @@
 use Rattle.record_reading.specs.Reading.{span_at}
-use borrow.Author.Rules.{rules}
 use Rattle.record_reading.proofs.read.get_span.Goals as goal
 
 pub returns : goal.returns

@@ -1,8 +1,6 @@
 use mathlib.Core.Path.{sym, ◌∙◌}
-use borrow.Author.Tests.{not-true, not-false}
 use Rattle.record_reading.proofs.Places.{whole_past, whole_unknown, whole_known}
 use Rattle.record_reading.specs.Reading.{kind_at}
-use borrow.Author.Rules.{rules}
 use Rattle.record_reading.proofs.read.is_whole.Goals as goal
 
 pub returns-then-s-at : goal.returns-then-s-at

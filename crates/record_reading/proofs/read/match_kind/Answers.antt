@@ -1,9 +1,7 @@
 use mathlib.Core.Path.{sym, ◌∙◌}
-use borrow.Author.Tests.{not-true, not-false}
 use Rattle.record_reading.proofs.Turns.{match_yes, match_no, match_unknown, match_stop}
 use Rattle.record_reading.proofs.Places.{whole_head}
 use Rattle.record_reading.specs.Reading.{kind_at}
-use borrow.Author.Rules.{rules}
 use native.Mathlib.Omega.{arith}
 use Rattle.record_reading.proofs.read.match_kind.Goals as goal
 

@@ -1,6 +1,5 @@
 use mathlib.Core.Path.{sym, ◌∙◌}
 use Rattle.record_reading.proofs.Turns.{next_got, next_stop}
-use borrow.Author.Rules.{rules}
 use Rattle.record_reading.proofs.read.next_token.Goals as goal
 
 pub record_at-r-requires : goal.record_at-r-requires

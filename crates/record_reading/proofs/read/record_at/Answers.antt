@@ -1,7 +1,6 @@
 use mathlib.Core.Path.{sym, ◌∙◌}
 use Rattle.record_reading.proofs.Places.{whole_head, whole_text, record_text, record_plain}
 use Rattle.record_reading.specs.Reading.{kind_at}
-use borrow.Author.Rules.{rules}
 use native.Mathlib.Omega.{arith}
 use Rattle.record_reading.proofs.read.record_at.Goals as goal
 

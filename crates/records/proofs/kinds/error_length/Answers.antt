@@ -1,6 +1,5 @@
 use mathlib.Core.Path.{sym, ◌∙◌}
 use Rattle.records.proofs.KindLaws.{length_code, length_bare}
-use borrow.Author.Rules.{rules}
 use Rattle.records.proofs.kinds.error_length.Goals as goal
 
 pub returns-then-has_code : goal.returns-then-has_code

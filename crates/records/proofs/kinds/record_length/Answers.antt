@@ -1,6 +1,5 @@
 use mathlib.Core.Path.{sym, ◌∙◌}
 use Rattle.records.proofs.KindLaws.{length_text, length_plain}
-use borrow.Author.Rules.{rules}
 use Rattle.records.proofs.kinds.record_length.Goals as goal
 
 pub returns-then-has_text : goal.returns-then-has_text

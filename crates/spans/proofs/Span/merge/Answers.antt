@@ -1,6 +1,5 @@
 -- `Span::merge` meets its contract.
 use Rattle.spans.specs.Span.{merge}
-use borrow.Author.Rules.{rules}
 use Rattle.spans.proofs.Span.merge.Goals as goal
 
 pub returns : goal.returns

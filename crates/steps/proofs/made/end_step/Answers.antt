@@ -1,5 +1,4 @@
 -- `made::end_step` meets its contract.
-use borrow.Author.Rules.{rules}
 use Rattle.steps.proofs.made.end_step.Goals as goal
 
 pub returns : goal.returns

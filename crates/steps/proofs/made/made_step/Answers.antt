@@ -1,5 +1,4 @@
 -- `made::made_step` meets its contract.
-use borrow.Author.Rules.{rules}
 use Rattle.steps.proofs.made.made_step.Goals as goal
 
 pub returns : goal.returns

@@ -1,5 +1,4 @@
 -- `made::part_step` meets its contract.
-use borrow.Author.Rules.{rules}
 use Rattle.steps.proofs.made.part_step.Goals as goal
 
 pub returns : goal.returns

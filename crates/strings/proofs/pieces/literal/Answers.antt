@@ -1,5 +1,4 @@
 use Rattle.strings.proofs.PieceLaws.{literal_span}
-use borrow.Author.Rules.{rules}
 use Rattle.strings.proofs.pieces.literal.Goals as goal
 
 pub returns : goal.returns

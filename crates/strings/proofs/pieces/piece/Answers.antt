@@ -5,7 +5,6 @@ use Rattle.characters.specs.Utf8.{chars_at}
 use Rattle.bridge.specs.Bridge.{NextAt, Reach}
 use Rattle.output.proofs.Buffers.{put_length}
 use Rattle.strings.proofs.PieceLaws.{piece_by, at_end, at_feed, at_quote, is_over, at_dollar, at_interp, dollar_stands, nothing_held, something_held, first_held, later_empty, later_held}
-use borrow.Author.Rules.{rules}
 use native.Mathlib.Omega.{arith}
 use Rattle.strings.proofs.pieces.piece.Goals as goal
 

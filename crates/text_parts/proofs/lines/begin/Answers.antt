@@ -1,5 +1,4 @@
 -- `text_parts::lines::begin` meets its contract. Assumes nothing.
-use borrow.Author.Rules.{rules}
 use Rattle.text_parts.proofs.Walking.{begin_good, begin_at_lem}
 use Rattle.text_parts.proofs.lines.begin.Goals as goal
 

@@ -1,5 +1,4 @@
 -- `text_parts::lines::behind_line` meets its contract. Assumes nothing.
-use borrow.Author.Rules.{rules}
 use Rattle.text_parts.proofs.Walking.{behind_last, behind_good, behind_more}
 use Rattle.text_parts.proofs.lines.behind_line.Goals as goal
 

@@ -1,5 +1,4 @@
 -- `text_parts::lines::next` meets its contract. Assumes nothing.
-use borrow.Author.Rules.{rules}
 use Rattle.text_parts.proofs.Walking.{left_over, next_feed, next_line}
 use Rattle.text_parts.proofs.lines.next.Goals as goal
 

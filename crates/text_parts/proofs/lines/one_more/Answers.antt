@@ -1,6 +1,5 @@
 -- `text_parts::lines::one_more` meets its contract. Assumes nothing.
 use mathlib.Core.Path.{refl}
-use borrow.Author.Rules.{rules}
 use Rattle.docs.proofs.Cleaning.{feeds_none, feeds_more}
 use Rattle.text_parts.proofs.lines.one_more.Goals as goal
 

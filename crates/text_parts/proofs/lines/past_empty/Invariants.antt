@@ -1,12 +1,7 @@
 -- `text_parts::lines::past_empty` meets its contract. The invariant: the same is left as at the beginning. The measure is what the part
-use mathlib.Core.Path.{sym, ◌∙◌, ap}
-use mathlib.Core.Bool.{true≢false}
 use Prim.Native.Nat.{◌-◌}
-use native.Mathlib.Omega.{arith}
-use borrow.Author.Rules.{rules}
 use lib.ListN.{length}
-use Rattle.text_parts.specs.declared.lines.Cursor.{Cursor}
-use Rattle.text_parts.proofs.Walking.{Passing, pass_start, pass_more, pass_end}
+use Rattle.text_parts.proofs.Walking.{Passing}
 use Rattle.text_parts.proofs.lines.past_empty.Given as goal
 
 abbrev pub invariant-loop-at : goal.invariant-loop-at

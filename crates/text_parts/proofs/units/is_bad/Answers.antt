@@ -1,6 +1,5 @@
 -- `text_parts::units::is_bad` meets its contract. Assumes nothing.
 use mathlib.Core.Path.{sym, ap}
-use borrow.Author.Rules.{rules}
 use Rattle.text_parts.specs.Units.{is_bad}
 use Rattle.text_parts.proofs.units.is_bad.Goals as goal
 

@@ -1,7 +1,6 @@
 -- `text_parts::units::next` meets its contract. Assumes nothing.
 use mathlib.Core.Path.{sym, ◌∙◌, subst}
 use native.Mathlib.Omega.{arith}
-use borrow.Author.Rules.{rules}
 use Rattle.text_parts.specs.Units.{NextAt}
 use Rattle.text_parts.proofs.Strings.{quote_over, plain_on, none_on, short_on}
 use Rattle.text_parts.proofs.units.next.Goals as goal

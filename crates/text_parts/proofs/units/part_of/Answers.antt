@@ -1,6 +1,5 @@
 -- `text_parts::units::part_of` meets its contract. Assumes nothing.
 use mathlib.Core.Path.{sym, ap}
-use borrow.Author.Rules.{rules}
 use Rattle.text_parts.specs.Units.{part_of}
 use Rattle.text_parts.proofs.units.part_of.Goals as goal
 

@@ -1,6 +1,5 @@
 -- `text_parts::units::unit_step` meets its contract. Assumes nothing.
 use mathlib.Core.Path.{sym, subst}
-use borrow.Author.Rules.{rules}
 use Rattle.spans.specs.declared.Position.{Position}
 use Rattle.bridge.specs.Bridge.{placed, Within}
 use Rattle.string_units.specs.Units.{FoundAt}

@@ -2,7 +2,6 @@
 use mathlib.Core.Path.{sym, ◌∙◌}
 use mathlib.Core.Path.{sym, ◌∙◌}
 use Rattle.walks.proofs.Starts.{stands_there, starts_no, starts_two}
-use borrow.Author.Rules.{rules}
 use native.Mathlib.Omega.{arith}
 use Rattle.walks.proofs.ahead.pair_at.Goals as goal
 

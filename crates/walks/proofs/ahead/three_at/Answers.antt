@@ -2,7 +2,6 @@
 use mathlib.Core.Path.{sym, ◌∙◌}
 use mathlib.Core.List.{[], ◌∷◌}
 use Rattle.walks.proofs.Starts.{stands_there, starts_no, starts_yes}
-use borrow.Author.Rules.{rules}
 use native.Mathlib.Omega.{arith}
 use Rattle.walks.proofs.ahead.three_at.Goals as goal
 

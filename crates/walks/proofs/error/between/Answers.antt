@@ -2,7 +2,6 @@
 use mathlib.Core.Path.{◌∙◌, ap₂}
 use Rattle.spans.specs.Span.{merge}
 use Rattle.rules.specs.Lexer.{span}
-use borrow.Author.Rules.{rules}
 use Rattle.walks.proofs.error.between.Goals as goal
 
 pub returns : goal.returns

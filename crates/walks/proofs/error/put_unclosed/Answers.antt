@@ -1,6 +1,5 @@
 -- `walks::error::put_unclosed` meets its contract. One record, or none. Assumes nothing.
 use Rattle.walks.proofs.Errors.{put_closed, put_unclosed}
-use borrow.Author.Rules.{rules}
 use Rattle.walks.proofs.error.put_unclosed.Goals as goal
 
 pub returns-then-closed : goal.returns-then-closed

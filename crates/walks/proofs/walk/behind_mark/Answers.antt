@@ -1,6 +1,5 @@
 -- `walks::walk::behind_mark` meets its contract. By whether the mark was found. Assumes nothing.
 use Rattle.walks.specs.Walks.{behind_mark}
-use borrow.Author.Rules.{rules}
 use Rattle.walks.proofs.walk.behind_mark.Goals as goal
 
 pub returns-then-c : goal.returns-then-c

@@ -1,12 +1,9 @@
 -- `walks::walk::to_byte` meets its contract. As `to_pair`. Assumes nothing.
 use mathlib.Core.Path.{sym, ◌∙◌, subst}
-use mathlib.Core.List.{[], ◌∷◌}
-use Prim.Native.Nat.{◌-◌}
-use lib.ListN.{length}
+use mathlib.Core.List.{[]}
 use Rattle.bridge.specs.Bridge.{NextAt}
 use Rattle.bridge.proofs.Bytes.{starts_one}
-use Rattle.walks.proofs.Walks.{Walking, same_stops, walking_on, upto_end, upto_stop, upto_more}
-use borrow.Author.Rules.{rules}
+use Rattle.walks.proofs.Walks.{same_stops, walking_on, upto_end, upto_stop, upto_more}
 use native.Mathlib.Omega.{arith}
 use Rattle.walks.proofs.walk.to_byte.Goals as goal
 

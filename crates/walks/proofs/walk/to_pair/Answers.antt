@@ -1,12 +1,8 @@
 -- `walks::walk::to_pair` meets its contract. Whatever ends the walk from where the loop stands ends it from its beginning. Assumes nothing.
 use mathlib.Core.Path.{subst}
 use mathlib.Core.List.{[], ◌∷◌}
-use Prim.Native.Nat.{◌-◌}
-use lib.ListN.{length}
 use Rattle.bridge.specs.Bridge.{NextAt}
-use Rattle.walks.specs.Walks.{star_slash}
-use Rattle.walks.proofs.Walks.{Walking, same_stops, walking_on, upto_end, upto_stop, upto_more}
-use borrow.Author.Rules.{rules}
+use Rattle.walks.proofs.Walks.{same_stops, walking_on, upto_end, upto_stop, upto_more}
 use native.Mathlib.Omega.{arith}
 use Rattle.walks.proofs.walk.to_pair.Goals as goal
 
