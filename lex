@@ -91,7 +91,7 @@ failed() {
 # The number of crates that the library is made of: those below aura_host in crates.txt, and itself.
 count_crates() {
     awk -F: '
-        !/^#/ { below[$1] = $2 }
+        !/^#/ { sub(/ .*/, "", $1); below[$1] = $2 }
         END {
             wanted["aura_host"]
             do {
@@ -106,16 +106,16 @@ count_crates() {
         }' crates.txt
 }
 
-# Hands the prover's lines on, and tells on a terminal how far it is.
+# Hands the prover's lines on, and tells on a terminal how far it is. It names a crate as it begins with it, and none that it takes from
+# an earlier run.
 follow() {
     count=0
     of=$(count_crates)
     while IFS= read -r line; do
         printf '%s\n' "$line"
-        case $line in "rt: "*" proved ("*) ;; *) continue ;; esac
+        case $line in "rt: chose --jobs "*" for "*) ;; *) continue ;; esac
         count=$((count + 1))
-        crate=${line#rt: }
-        [ ! -t 2 ] || printf '\r\033[Kproving %s of %s: %s' "$count" "$of" "${crate%% *}" >&2
+        [ ! -t 2 ] || printf '\r\033[Kproving %s of %s: %s' "$count" "$of" "${line##* for }" >&2
     done
     [ ! -t 2 ] || printf '\r\033[K' >&2
 }
@@ -125,8 +125,8 @@ prove() {
     say "proving and building the lexer, which takes about ten minutes, once"
     mkdir -p "$logs"
     rm -f "$logs/proved"
-    { rt staticlib aura_host 2>&1 && : > "$logs/proved"; } | follow > "$logs/prover"
-    [ -f "$logs/proved" ] || failed "the prover (rt staticlib aura_host)" "$logs/prover"
+    { tools/staticlib 2>&1 && : > "$logs/proved"; } | follow > "$logs/prover"
+    [ -f "$logs/proved" ] || failed "the prover (tools/staticlib)" "$logs/prover"
     stamp library "$library" "$@"
 }
 

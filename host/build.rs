@@ -10,7 +10,7 @@ fn main() {
     println!("cargo::rerun-if-changed={}", library.display());
     if !library.is_file() {
         println!("cargo::error=the static library is missing: {}", library.display());
-        println!("cargo::error=run `rt staticlib aura_host` at the repository's root, or name the library's folder in AURA_LIB_DIR");
+        println!("cargo::error=run `tools/staticlib` at the repository's root, or name the library's folder in AURA_LIB_DIR");
         return;
     }
     println!("cargo::rustc-link-search=native={}", folder.display());

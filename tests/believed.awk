@@ -7,13 +7,14 @@ function fail(what) {
     failed++
 }
 
-# The names that a `use` line brings, in `home`: where each stands.
+# The names that a `use` line brings, in `home`: where each stands. Those of the library are not followed.
 function brings(line, file, home,    crate, part, rest, n, i, names, name) {
-    sub(/^ *(ghost )?use Rattle·/, "", line)
+    sub(/^ *(pub |unfoldable |ghost )*use Rattle\./, "", line)
     crate = line
-    sub(/[.·].*/, "", crate)
+    sub(/\..*/, "", crate)
+    if (crate == "std") return
     rest = line
-    sub(/^[a-z0-9_]+(·[a-z]+)?\./, "", rest)
+    sub(/^[a-z0-9_]+\./, "", rest)
     part = rest
     sub(/\..*/, "", part)
     sub(/^[a-z]+\./, "", rest)
@@ -36,7 +37,7 @@ function brings(line, file, home,    crate, part, rest, n, i, names, name) {
 
 # Marks the definitions that a text names, given where the names stand.
 function names_in(text, home, where,    name, n, i, parts, words, k, word) {
-    gsub(/[(){},;]|⌜|⌝/, " ", text)
+    gsub(/[(){},;]/, " ", text)
     n = split(text, words, /[ \t]+/)
     delete said
     for (i = 1; i <= n; i++) {
@@ -45,7 +46,7 @@ function names_in(text, home, where,    name, n, i, parts, words, k, word) {
         if (sub(/\..*/, "", word)) said[word] = 1
     }
     for (name in home) {
-        k = split(name, parts, "_")
+        k = split(name, parts, "◌")
         for (i = 1; i <= k; i++) {
             if (parts[i] != "" && parts[i] in said) {
                 if (home[name] ~ /^specs /) mark(substr(home[name], 7), where)
@@ -74,7 +75,7 @@ function load(file, home,    line) {
     uses[file] = 0
     while ((getline line < file) > 0) {
         lines[++count] = line
-        if (line ~ /^ *(ghost )?use Rattle·/) brings(line, file, home)
+        if (line ~ /^ *(pub |unfoldable |ghost )*use Rattle\./) brings(line, file, home)
     }
     close(file)
     if (count == 0) fail("there is no " file)

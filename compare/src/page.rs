@@ -174,9 +174,9 @@ mod tests {
 
     #[test]
     fn a_right_row_has_both_texts() {
-        let (text, counts) = text(&all(), &tables("| `parse_number` | 417–520 | `parseNumber`, Numbers | a < b |")).expect("a right row");
+        let (text, counts) = text(&all(), &tables("| `parse_number` | 417–520 | `parse_number`, Numbers | a < b |")).expect("a right row");
         assert!(counts.starts_with("1 rows: 1 functions and 104 lines of the original, 1 definitions and "), "{counts}");
-        for expected in ["<span>417</span>    fn parse_number(", "parseNumber cs =", "../crates/rules/specs/Numbers.antt", "a &lt; b"] {
+        for expected in ["<span>417</span>    fn parse_number(", "parse_number cs =", "../crates/rules/specs/Numbers.antt", "a &lt; b"] {
             assert!(text.contains(expected), "{expected}");
         }
     }
@@ -185,12 +185,12 @@ mod tests {
     fn a_wrong_row_is_told_with_its_name() {
         let all = all();
         for (row, expected) in [
-            ("| `parse_number` | 417–9999 | `parseNumber`, Numbers | |", "row `parse_number`: the lines 417–9999 lie outside lexer.rs"),
-            ("| `parse_number` | 418–520 | `parseNumber`, Numbers | |", "row `parse_number`: parse_number is not declared in the lines"),
-            ("| `parse_number` | 417–520 | `parseNumbr`, Numbers | |", "row `parse_number`: parseNumbr is not declared in crates/rules"),
-            ("| `parse_number` | 417–520 | `parseNumber`, Marks | |", "row `parse_number`: parseNumber is not declared in crates/rules"),
+            ("| `parse_number` | 417–9999 | `parse_number`, Numbers | |", "row `parse_number`: the lines 417–9999 lie outside lexer.rs"),
+            ("| `parse_number` | 418–520 | `parse_number`, Numbers | |", "row `parse_number`: parse_number is not declared in the lines"),
+            ("| `parse_number` | 417–520 | `parse_numbr`, Numbers | |", "row `parse_number`: parse_numbr is not declared in crates/rules"),
+            ("| `parse_number` | 417–520 | `parse_number`, Marks | |", "row `parse_number`: parse_number is not declared in crates/rules"),
             ("| `parse_number` | 417–520 | as it is | |", "row `parse_number`: neither a definition nor a file is named"),
-            ("| `parse_number` | 417 to 520 | `parseNumber` | |", "row `parse_number`: the lines 417 to 520 are not understood"),
+            ("| `parse_number` | 417 to 520 | `parse_number` | |", "row `parse_number`: the lines 417 to 520 are not understood"),
         ] {
             let wrong = text(&all, &tables(row)).map(|_| ()).expect_err(row);
             assert!(wrong.len() == 1 && wrong[0].starts_with(expected), "{wrong:?}");

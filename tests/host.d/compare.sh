@@ -158,7 +158,7 @@ compare_page() {
     wrote "^page: [0-9]+ rows: [0-9]+ functions and [0-9]+ lines of the original, [0-9]+ definitions and [0-9]+ that they use: $PWD/target/page\.html\$"
     cp target/page.html "$out/page.html"
     has '<span>[0-9]+</span>    fn parse_number\('
-    has '<span>[0-9]+</span>parseNumber cs ='
+    has '<span>[0-9]+</span>parse_number cs ='
     has '<a href="\.\./crates/rules/specs/Numbers\.antt">crates/rules/specs/Numbers\.antt</a>'
     has '<a href="#row-1">'
     has '<section id="row-1">'

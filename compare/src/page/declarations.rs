@@ -29,7 +29,8 @@ pub fn find(lines: &[&str], name: &str) -> Option<RangeInclusive<usize>> {
 /// The words of a definition's lines that can be names: no comments, and no fields behind a point.
 pub fn words(lines: &[String]) -> impl Iterator<Item = &str> {
     let code = lines.iter().map(|line| line.split("--").next().unwrap_or_default());
-    code.flat_map(|code| code.split([' ', '(', ')', '{', '}', ';', ','])).filter(|word| !word.is_empty() && !word.starts_with('.'))
+    let words = code.flat_map(|code| code.split([' ', '(', ')', '{', '}', ';', ',']));
+    words.filter_map(|word| word.split('.').next()).filter(|word| !word.is_empty())
 }
 
 /// The names that a line of Rust declares, each behind the word that says what it is.
@@ -56,9 +57,9 @@ unfoldable pub next : Text → Bool
 next [] = false
 next (c ∷ cs) = p c
 
-infixr 20 _and-then_
-abbrev pub _and-then_ : A → B
-(f and-then g) cs = nothing
+infixr 20 ◌and_then◌
+abbrev pub ◌and_then◌ : A → B
+(f and_then g) cs = nothing
 
 pub record Part (s : Span) : Type 0 where
   pub taken : Text
@@ -78,7 +79,7 @@ pub struct Span {
     #[test]
     fn a_declaration_has_its_comment_and_its_equations() {
         assert_eq!(lines_of("next"), Some((6, 10)));
-        assert_eq!(lines_of("_and-then_"), Some((12, 14)));
+        assert_eq!(lines_of("◌and_then◌"), Some((12, 14)));
         assert_eq!(lines_of("Part"), Some((16, 17)));
         assert_eq!(lines_of("lookup"), Some((19, 20)));
         assert_eq!(lines_of("small"), Some((21, 21)));
@@ -87,16 +88,17 @@ pub struct Span {
 
     #[test]
     fn a_field_or_a_use_is_no_declaration() {
-        for name in ["taken", "start", "a", "c", "and-then", "nex", "nextt", "file", "pub", ""] {
+        for name in ["taken", "start", "a", "c", "and_then", "nex", "nextt", "file", "pub", ""] {
             assert_eq!(lines_of(name), None, "{name}");
         }
     }
 
     #[test]
     fn words_of_code_can_be_names() {
-        let lines = ["-- a comment".to_string(), "f (c ∷ cs) = let u = upTo x in record { a = u .before } -- end".to_string()];
+        let lines =
+            ["-- a comment".to_string(), "f (c ∷ cs) = let u = up_to x in record { a = u.before, b = (g u).past } -- end".to_string()];
         let found: Vec<&str> = words(&lines).collect();
-        assert_eq!(found, ["f", "c", "∷", "cs", "=", "let", "u", "=", "upTo", "x", "in", "record", "a", "=", "u"]);
+        assert_eq!(found, ["f", "c", "∷", "cs", "=", "let", "u", "=", "up_to", "x", "in", "record", "a", "=", "u", "b", "=", "g", "u"]);
     }
 
     #[test]
