@@ -1,4 +1,5 @@
 -- Bad sequences, octet by octet: which stay bad whatever is put behind them, and which can be mended. Assumes nothing.
+use Rattle.std.specs.Prelude.{if◌then◌else◌}
 use mathlib.Core.Path.{◌≡◌, refl, sym, ◌∙◌, ap}
 use mathlib.Core.Bool.{Bool, true, false, ◌||◌, not, true≢false, false≢true}
 use mathlib.Core.Logic.{⊎_elim}
@@ -9,7 +10,7 @@ use lib.Dec.{eqb, leb}
 use borrow.Author.Tests.{leb-true, eqb-true}
 use lib.ListN.{length, get_or, drop}
 use lib.Seq.{drop-nil}
-use Rattle.characters.specs.Choice.{if◌then◌else◌, ◌is◌, within}
+use Rattle.characters.specs.Choice.{◌is◌, within}
 use Rattle.characters.specs.Utf8.{is_tail, second_ok, code_two, code_three, code_four, two_of, three_of, four_of, sequence, first_of, is_cut, has_own_range, is_barred}
 use Rattle.characters.specs.BadBytes.{no_tail, is_stray, bad_second, bad_third, bad_fourth, is_other}
 use Rattle.characters.specs.declared.Decoded.TheVariants.{Code, Bad}

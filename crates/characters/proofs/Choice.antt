@@ -1,25 +1,26 @@
 -- Laws of choices by a test, and of the test `within`. Assumes nothing.
+use Rattle.std.specs.Prelude.{if◌then◌else◌}
 use mathlib.Core.Path.{◌≡◌, refl}
 use mathlib.Core.Bool.{Bool, true, false, ◌&&◌, ◌||◌, and-false, true≢false, false≢true}
 use mathlib.Core.Logic.{◌⊎◌, inl, inr}
 use Prim.Native.Nat.{ℕ, ◌≤◌, ◌<◌}
 use lib.Dec.{leb}
 use borrow.Author.Tests.{le-leb, lt-leb, leb-true, leb-false}
-use Rattle.characters.specs.Choice.{if◌then◌else◌, within}
+use Rattle.characters.specs.Choice.{within}
 
 -- What holds of both choices holds of the choice.
-pub if_all {ℓ} : {A : Type ℓ} (P : A → Type 0) (b : Bool) {x y : A} → (b ≡ true → P x) → (b ≡ false → P y) → P (if b then x else y)
+pub if_all : {A : Type 0} (P : A → Type 0) (b : Bool) {x y : A} → (b ≡ true → P x) → (b ≡ false → P y) → P (if b then x else y)
 if_all P true f g = f refl
 if_all P false f g = g refl
 
 -- A relation between two choices by one test.
-pub if_both {ℓ} : {A A' : Type ℓ} (R : A → A' → Type 0) (b : Bool) {x y : A} {x' y' : A'}
+pub if_both : {A A' : Type 0} (R : A → A' → Type 0) (b : Bool) {x y : A} {x' y' : A'}
     → (b ≡ true → R x x') → (b ≡ false → R y y') → R (if b then x else y) (if b then x' else y')
 if_both R true f g = f refl
 if_both R false f g = g refl
 
 -- The same where the two tests are equal.
-pub if_rel {ℓ κ} : {A A' : Type ℓ} (R : A → A' → Type κ) (b b' : Bool) {x y : A} {x' y' : A'}
+pub if_rel {κ} : {A A' : Type 0} (R : A → A' → Type κ) (b b' : Bool) {x y : A} {x' y' : A'}
     → b' ≡ b → (b ≡ true → R x x') → (b ≡ false → R y y') → R (if b then x else y) (if b' then x' else y')
 if_rel R true true e f g = f refl
 if_rel R true false e f g = absurd (false≢true e)

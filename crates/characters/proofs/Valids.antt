@@ -1,4 +1,5 @@
 -- Laws of the character at a place of a text that is UTF-8 from there on: its first octet tells what it is. Assumes nothing.
+use Rattle.std.specs.Prelude.{if◌then◌else◌}
 use mathlib.Core.Path.{◌≡◌, refl, sym, ◌∙◌, ap}
 use mathlib.Core.Bool.{Bool, true, false, ◌&&◌, false≢true}
 use mathlib.Core.Logic.{⊎_elim}
@@ -6,7 +7,6 @@ use mathlib.Core.List.{List}
 use Prim.Native.Nat.{ℕ, ◌+◌, ◌≤◌, ◌<◌}
 use lib.ListN.{length, get_or, drop, length-drop}
 use native.Mathlib.Omega.{arith}
-use Rattle.characters.specs.Choice.{if◌then◌else◌}
 use Rattle.characters.specs.Utf8.{is_tail, second_ok, code_two, code_three, code_four, two_of, three_of, four_of, sequence, decode_at, is_valid}
 use Rattle.characters.specs.Valid.{bad_from}
 use Rattle.characters.specs.declared.Decoded.{Decoded}

@@ -1,10 +1,5 @@
--- The words that the definitions are written in: a choice by a test, and two tests on a number.
-use Rattle.std.specs.Prelude.{Bool, true, false, ◌&&◌, ℕ, eqb, leb}
-
-infixr 10 if◌then◌else◌
-abbrev pub if◌then◌else◌ {ℓ} : {A : Type ℓ} → Bool → A → A → A
-if true then x else y = x
-if false then x else y = y
+-- Two tests on a number, that the definitions are written in.
+use Rattle.std.specs.Prelude.{Bool, ◌&&◌, ℕ, eqb, leb}
 
 -- The two numbers are the same.
 infix 50 ◌is◌

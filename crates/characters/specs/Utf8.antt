@@ -1,6 +1,6 @@
 -- UTF-8 by RFC 3629: what a character is. A text is a list of octets, a character is its code point.
-use Rattle.std.specs.Prelude.{◌≡◌, ℕ, zero, suc, ◌+◌, ◌-◌, ◌*◌, ◌/◌, ◌%◌, Bool, true, false, ◌&&◌, ◌||◌, not, List, [], ◌∷◌, ◌++◌, leb, get_or, drop}
-use Rattle.characters.specs.Choice.{if◌then◌else◌, ◌is◌, within}
+use Rattle.std.specs.Prelude.{◌≡◌, ℕ, zero, suc, ◌+◌, ◌-◌, ◌*◌, ◌/◌, ◌%◌, Bool, true, false, ◌&&◌, ◌||◌, not, List, [], ◌∷◌, ◌++◌, leb, get_or, drop, if◌then◌else◌}
+use Rattle.characters.specs.Choice.{◌is◌, within}
 use Rattle.characters.specs.declared.Decoded.{Decoded}
 use Rattle.characters.specs.declared.Decoded.TheVariants.{Code, Bad, End}
 use Rattle.characters.specs.declared.Checked.{Checked}

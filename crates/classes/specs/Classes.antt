@@ -1,6 +1,6 @@
 -- The classes of the ASCII characters, by what begins with one: the choice of `next_token` (lexer.rs, lines 193 to 257).
-use Rattle.std.specs.Prelude.{List, [], ◌∷◌, ℕ, suc, leb}
-use Rattle.characters.specs.Choice.{if◌then◌else◌, ◌is◌}
+use Rattle.std.specs.Prelude.{List, [], ◌∷◌, ℕ, suc, leb, if◌then◌else◌}
+use Rattle.characters.specs.Choice.{◌is◌}
 use Rattle.characters.specs.Space.{is_white}
 use Rattle.rules.specs.Text.{Char, Text, ch, text, is_digit, is_ident_start}
 use Rattle.lexemes.specs.Lists.{table_of}

@@ -1,5 +1,6 @@
 -- A string one step at a time. The rule `parse_string_tokens` gives all the tokens of a string at once; here is what a step of it leaves.
 -- Assumes nothing.
+use Rattle.std.specs.Prelude.{if◌then◌else◌}
 use mathlib.Core.Path.{◌≡◌, refl, ap, ◌∙◌, sym}
 use mathlib.Core.Bool.{Bool, true, false, ◌&&◌, ◌||◌}
 use mathlib.Core.List.{List, [], ◌∷◌, ◌++◌, map, map-append, append_assoc}
@@ -9,7 +10,7 @@ use native.Mathlib.Omega.{arith}
 use native.Mathlib.Nat.{suc-add}
 use lib.ListN.{length, take, drop, length-append}
 use lib.Seq.{take-append-add, drop-append-add}
-use Rattle.characters.specs.Choice.{if◌then◌else◌, ◌is◌, within}
+use Rattle.characters.specs.Choice.{◌is◌, within}
 use Rattle.characters.specs.Space.{is_white}
 use Rattle.characters.proofs.Choice.{if_all, if_both}
 use Rattle.spans.specs.declared.Position.{Position}

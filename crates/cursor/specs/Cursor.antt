@@ -1,8 +1,7 @@
 -- What a scanning step promises. A cursor is a position and, inside a string, where that string began. `left` is all that the
 -- rules still give from a cursor on; a step takes what it yields off the front of it.
-use Rattle.std.specs.Prelude.{◌≡◌, Bool, true, ◌||◌, List, [], ◌∷◌, ◌++◌, ℕ, zero, suc, length, take, drop}
+use Rattle.std.specs.Prelude.{◌≡◌, Bool, true, ◌||◌, List, [], ◌∷◌, ◌++◌, ℕ, zero, suc, length, take, drop, if◌then◌else◌}
 use Rattle.std.proofs.Math.Option.{none}
-use Rattle.characters.specs.Choice.{if◌then◌else◌}
 use Rattle.spans.specs.declared.Position.{Position}
 use Rattle.rules.specs.Text.{Text}
 use Rattle.rules.specs.Tokens.{Token, TokenizeError}

@@ -1,6 +1,6 @@
 -- What stands inside a string: units and interpolations. Neither depends on its place in the string or on what stands before it.
-use Rattle.std.specs.Prelude.{Bool, true, false, not, List, [], ◌∷◌, ◌++◌, ℕ, zero, suc, take, drop}
-use Rattle.characters.specs.Choice.{if◌then◌else◌, ◌is◌}
+use Rattle.std.specs.Prelude.{Bool, true, false, not, List, [], ◌∷◌, ◌++◌, ℕ, zero, suc, take, drop, if◌then◌else◌}
+use Rattle.characters.specs.Choice.{◌is◌}
 use Rattle.spans.specs.declared.Position.{Position}
 use Rattle.rules.specs.Text.{Char, Text, ch, text, LF, is_ident_part}
 use Rattle.rules.specs.Scan.{next, starts_with, run, Upto, up_to, closing}

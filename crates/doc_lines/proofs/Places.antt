@@ -1,4 +1,5 @@
 -- Walks over the characters of a part, by places. Assumes nothing.
+use Rattle.std.specs.Prelude.{if◌then◌else◌}
 use mathlib.Core.Path.{◌≡◌, refl, sym, ◌∙◌, ap}
 use mathlib.Core.Bool.{Bool, true, false, ◌&&◌, not, and-false, and-true, true≢false, false≢true}
 use mathlib.Core.List.{List, [], ◌∷◌, ◌++◌, append-nil, append_assoc}
@@ -8,7 +9,7 @@ use native.Mathlib.Omega.{arith}
 use borrow.Author.Tests.{eqb-true, ne_eqb}
 use lib.ListN.{length, get_or}
 use lib.Seq.{slice, slice_empty}
-use Rattle.characters.specs.Choice.{if◌then◌else◌, ◌is◌}
+use Rattle.characters.specs.Choice.{◌is◌}
 use Rattle.characters.specs.Space.{is_white}
 use Rattle.characters.specs.Utf8.{bytes, encode, chars_at, chars_of, decode_at}
 use Rattle.characters.specs.declared.Decoded.TheVariants.{Code}

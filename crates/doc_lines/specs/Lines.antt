@@ -1,8 +1,8 @@
 -- What the functions of the doc comments' cleaner answer. `s` is the part of a script between a comment's marks; places are bytes
 -- of it.
-use Rattle.std.specs.Prelude.{◌≡◌, Bool, true, false, ◌&&◌, not, List, [], ◌∷◌, ℕ, ◌+◌, ◌≤◌, ◌<◌, leb, length, get_or}
+use Rattle.std.specs.Prelude.{◌≡◌, Bool, true, false, ◌&&◌, not, List, [], ◌∷◌, ℕ, ◌+◌, ◌≤◌, ◌<◌, leb, length, get_or, if◌then◌else◌}
 use Rattle.std.proofs.Math.Seq.{slice}
-use Rattle.characters.specs.Choice.{if◌then◌else◌, ◌is◌, within}
+use Rattle.characters.specs.Choice.{◌is◌, within}
 use Rattle.characters.specs.Space.{is_white}
 use Rattle.characters.specs.Utf8.{width, chars_at, encode}
 use Rattle.rules.specs.Text.{Char, Text, ch, LF}

@@ -1,8 +1,7 @@
 // The lines of documentation comments (lexer.rs, lines 931 to 983), as places in the part of the script between a comment's marks.
 #![tactic(auto)]
 
-ghost use Rattle.std.specs.Prelude.{◌≡◌, true, not, ◌≤◌, ltb, length};
-ghost use Rattle.characters.specs.Choice.{if◌then◌else◌};
+ghost use Rattle.std.specs.Prelude.{◌≡◌, true, not, ◌≤◌, ltb, length, if◌then◌else◌};
 ghost use Rattle.characters.specs.Space.{is_white};
 ghost use Rattle.rules.specs.Docs.{trim_end, clean_line};
 ghost use Rattle.doc_lines.specs.Lines.{NextAt, Skipped, in_line, is_star, is_blank, is_ink, Inked, stops_at, LineAt};

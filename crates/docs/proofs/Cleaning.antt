@@ -1,4 +1,5 @@
 -- The cleaned text written line by line. Assumes nothing.
+use Rattle.std.specs.Prelude.{if◌then◌else◌}
 use mathlib.Core.Path.{◌≡◌, refl, sym, ◌∙◌, ap, subst}
 use mathlib.Core.Bool.{Bool, true, false}
 use mathlib.Core.List.{List, [], ◌∷◌, ◌++◌, map}
@@ -7,7 +8,7 @@ use native.Mathlib.Omega.{arith}
 use borrow.Author.Tests.{eqb-true, eqb-false, ne_eqb, eq-eqb}
 use lib.ListN.{length, replicate, length-replicate, length-append}
 use lib.Seq.{slice, length-slice}
-use Rattle.characters.specs.Choice.{if◌then◌else◌, ◌is◌}
+use Rattle.characters.specs.Choice.{◌is◌}
 use Rattle.characters.specs.Utf8.{encode_char, encode, chars_at, chars_of}
 use Rattle.characters.proofs.Choice.{if_all, if_both}
 use Rattle.characters.proofs.Widths.{width_bounds, char_length, encode_one}

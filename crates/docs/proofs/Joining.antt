@@ -1,4 +1,5 @@
 -- Cleaned lines joined by line feeds and trimmed are the cleaned text line by line. Assumes nothing.
+use Rattle.std.specs.Prelude.{if◌then◌else◌}
 use mathlib.Core.Path.{◌≡◌, refl, sym, ◌∙◌, ap}
 use mathlib.Core.Bool.{Bool, true, false, not}
 use mathlib.Core.List.{List, [], ◌∷◌, ◌++◌, map, append-nil, append_assoc}
@@ -7,7 +8,7 @@ use native.Mathlib.Numerals.{add-one}
 use native.Mathlib.Omega.{arith}
 use borrow.Author.Tests.{ne_eqb}
 use lib.ListN.{replicate}
-use Rattle.characters.specs.Choice.{if◌then◌else◌, ◌is◌, within}
+use Rattle.characters.specs.Choice.{◌is◌, within}
 use Rattle.characters.specs.Space.{is_white}
 use Rattle.rules.specs.Text.{Char, Text, LF, is_empty}
 use Rattle.rules.specs.Scan.{next, takes, nothing, run}

@@ -1,6 +1,6 @@
 -- The cleaned text of a doc comment, line by line.
-use Rattle.std.specs.Prelude.{Bool, List, [], ◌∷◌, ◌++◌, ℕ, ◌+◌, ◌≤◌, length, replicate}
-use Rattle.characters.specs.Choice.{if◌then◌else◌, ◌is◌}
+use Rattle.std.specs.Prelude.{Bool, List, [], ◌∷◌, ◌++◌, ℕ, ◌+◌, ◌≤◌, length, replicate, if◌then◌else◌}
+use Rattle.characters.specs.Choice.{◌is◌}
 use Rattle.characters.specs.Utf8.{encode}
 use Rattle.rules.specs.Text.{Text, LF, is_empty}
 use Rattle.output.specs.Writing.{Put}

@@ -1,4 +1,5 @@
 -- Laws of hexadecimal digits: one, and several one after another. Assumes nothing.
+use Rattle.std.specs.Prelude.{if◌then◌else◌}
 use mathlib.Core.Path.{◌≡◌, refl, sym, ◌∙◌, ap}
 use mathlib.Core.Bool.{Bool, true, false, ◌||◌, false≢true}
 use mathlib.Core.List.{List, [], ◌∷◌, ◌++◌}
@@ -7,7 +8,7 @@ use Prim.Native.Nat.{ℕ, zero, suc, ◌+◌, ◌-◌, ◌*◌, ◌<◌}
 use lib.ListN.{length, take, get_or}
 use native.Mathlib.Omega.{arith}
 use native.Mathlib.Nat.{add-zero}
-use Rattle.characters.specs.Choice.{if◌then◌else◌, within}
+use Rattle.characters.specs.Choice.{within}
 use Rattle.characters.specs.Utf8.{chars_at}
 use Rattle.characters.proofs.Choice.{within_bounds}
 use Rattle.rules.specs.Text.{Text, is_digit, is_hex_digit, hex_value}

@@ -1,7 +1,7 @@
 -- Numbers that may be missing, as the code answers them.
-use Rattle.std.specs.Prelude.{List, ℕ, ◌+◌, get_or}
+use Rattle.std.specs.Prelude.{List, ℕ, ◌+◌, get_or, if◌then◌else◌}
 use Rattle.std.proofs.Math.Option.{Option, none, some}
-use Rattle.characters.specs.Choice.{if◌then◌else◌, ◌is◌}
+use Rattle.characters.specs.Choice.{◌is◌}
 use Rattle.rules.specs.Text.{Char, ch, is_hex_digit, hex_value}
 use Rattle.rules.specs.Tables.{ESCAPES, lookup}
 use Rattle.escapes.specs.declared.Value.{Value}

@@ -1,4 +1,5 @@
 -- Laws of interpolations: where one ends, and the bytes of its text. Assumes nothing.
+use Rattle.std.specs.Prelude.{if◌then◌else◌}
 use mathlib.Core.Path.{◌≡◌, refl, sym, ◌∙◌, ap, subst}
 use mathlib.Core.Bool.{Bool, true, false, not}
 use mathlib.Core.List.{List, [], ◌∷◌, ◌++◌, append-nil}
@@ -6,7 +7,6 @@ use Prim.Native.Nat.{ℕ, suc, ◌+◌, ◌-◌, ◌≤◌}
 use lib.ListN.{length, drop}
 use lib.Seq.{slice}
 use native.Mathlib.Omega.{arith}
-use Rattle.characters.specs.Choice.{if◌then◌else◌}
 use Rattle.characters.specs.Utf8.{chars_at, bytes, width, encode, encode_char}
 use Rattle.characters.proofs.Choice.{if_all}
 use Rattle.characters.proofs.Texts.{encode_append, encode_length, bytes_append}

@@ -1,6 +1,6 @@
 -- The tables of keywords.
-use Rattle.std.specs.Prelude.{List, [], ◌∷◌, ℕ, suc, ◌+◌, ◌-◌, ◌*◌, ◌/◌, ◌%◌, length, get_or}
-use Rattle.characters.specs.Choice.{if◌then◌else◌, ◌is◌}
+use Rattle.std.specs.Prelude.{List, [], ◌∷◌, ℕ, suc, ◌+◌, ◌-◌, ◌*◌, ◌/◌, ◌%◌, length, get_or, if◌then◌else◌}
+use Rattle.characters.specs.Choice.{◌is◌}
 use Rattle.rules.specs.Text.{Text}
 use Rattle.rules.specs.Tables.{Ident, KEYWORDS}
 use Rattle.lexemes.specs.Lists.{table_of, rows_of}

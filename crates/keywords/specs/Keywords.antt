@@ -1,6 +1,5 @@
 -- The places at which a name is compared with a keyword.
-use Rattle.std.specs.Prelude.{ℕ, ltb}
-use Rattle.characters.specs.Choice.{if◌then◌else◌}
+use Rattle.std.specs.Prelude.{ℕ, ltb, if◌then◌else◌}
 
 -- The place `i` in a word of `n` characters; past its end the first place again.
 unfoldable pub pick : ℕ → ℕ → ℕ

@@ -1,7 +1,7 @@
 -- Words: what their scanners promise.
-use Rattle.std.specs.Prelude.{◌≡◌, List, ◌++◌, ℕ, ◌+◌, ◌≤◌, length}
+use Rattle.std.specs.Prelude.{◌≡◌, List, ◌++◌, ℕ, ◌+◌, ◌≤◌, length, if◌then◌else◌}
 use Rattle.std.proofs.Math.Seq.{slice}
-use Rattle.characters.specs.Choice.{if◌then◌else◌, ◌is◌}
+use Rattle.characters.specs.Choice.{◌is◌}
 use Rattle.characters.specs.Utf8.{chars_at}
 use Rattle.rules.specs.Text.{Text, text}
 use Rattle.rules.specs.Tables.{DoubleColonT}

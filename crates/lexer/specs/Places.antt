@@ -1,7 +1,7 @@
 -- Where texts lie in the text buffer, as the records of a token buffer tell it (document 01, "Records": "Texts fill the buffer's
 -- front without gap or overlap").
-use Rattle.std.specs.Prelude.{◌≡◌, List, [], ◌∷◌, ◌++◌, ℕ, zero, suc, ◌+◌}
-use Rattle.characters.specs.Choice.{if◌then◌else◌, ◌is◌}
+use Rattle.std.specs.Prelude.{◌≡◌, List, [], ◌∷◌, ◌++◌, ℕ, zero, suc, ◌+◌, if◌then◌else◌}
+use Rattle.characters.specs.Choice.{◌is◌}
 use Rattle.rules.specs.Tables.{EOF}
 use Rattle.records.specs.Kinds.{is_made}
 use Rattle.records.specs.Answers.{Answer, got, refused}

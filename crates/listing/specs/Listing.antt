@@ -1,7 +1,6 @@
 -- What the program `tokens` writes for a script (document 01, under "Small scripts"): a line for each token, a line for each error,
 -- and `closed` or `open`; or one line, `refused` or `long`.
-use Rattle.std.specs.Prelude.{ℕ, ◌+◌, ◌*◌, List, ◌++◌, leb, length}
-use Rattle.characters.specs.Choice.{if◌then◌else◌}
+use Rattle.std.specs.Prelude.{ℕ, ◌+◌, ◌*◌, List, ◌++◌, leb, length, if◌then◌else◌}
 use Rattle.rules.specs.Script.{script_tokens, script_errors, script_closed}
 use Rattle.spellings.specs.Spelling.{ascii}
 use Rattle.records.specs.Answers.{Answer, got, refused}

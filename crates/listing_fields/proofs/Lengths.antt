@@ -1,4 +1,5 @@
 -- How long fields are at most. Assumes nothing.
+use Rattle.std.specs.Prelude.{if◌then◌else◌}
 use mathlib.Core.Path.{◌≡◌, refl}
 use mathlib.Core.List.{List, [], ◌∷◌}
 use mathlib.Core.Option.{Option, none, some}
@@ -6,7 +7,6 @@ use Prim.Native.Nat.{ℕ, zero, suc, ◌+◌, ◌*◌, ◌/◌, ◌%◌, ◌≤�
 use native.Mathlib.Omega.{arith}
 use lib.Dec.{ltb}
 use lib.ListN.{length, length-append}
-use Rattle.characters.specs.Choice.{if◌then◌else◌}
 use Rattle.characters.proofs.Choice.{if_all}
 use Rattle.spans.specs.declared.Span.{Span}
 use Rattle.listing_fields.specs.Numbers.{decimal_in, decimal, hex_of}

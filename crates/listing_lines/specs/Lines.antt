@@ -1,6 +1,5 @@
 -- The lines of a listing (document 01, under "Small scripts").
-use Rattle.std.specs.Prelude.{ℕ, Bool, List, [], ◌∷◌, ◌++◌}
-use Rattle.characters.specs.Choice.{if◌then◌else◌}
+use Rattle.std.specs.Prelude.{ℕ, Bool, List, [], ◌∷◌, ◌++◌, if◌then◌else◌}
 use Rattle.spans.specs.declared.Span.{Span}
 use Rattle.rules.specs.Text.{ch, LF}
 use Rattle.rules.specs.Tokens.{Token, TokenizeError}

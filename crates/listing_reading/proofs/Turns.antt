@@ -1,11 +1,12 @@
 -- The loops over records: a turn of the reader writes a line, and what is still to be written completes the whole. Assumes nothing.
+use Rattle.std.specs.Prelude.{if◌then◌else◌}
 use mathlib.Core.Path.{◌≡◌, refl}
 use mathlib.Core.List.{List, [], ◌++◌}
 use Prim.Native.Nat.{ℕ, zero, suc, ◌-◌, ◌≤◌, ◌<◌}
 use native.Mathlib.Omega.{arith}
 use borrow.Author.Tests.{eq-eqb, ne_eqb}
 use lib.ListN.{length-append}
-use Rattle.characters.specs.Choice.{if◌then◌else◌, ◌is◌}
+use Rattle.characters.specs.Choice.{◌is◌}
 use Rattle.output.specs.Writing.{Put}
 use Rattle.output.proofs.Buffers.{Writing, write_start, write_more, write_end}
 use Rattle.rules.specs.Tables.{EOF}

@@ -1,7 +1,6 @@
 -- The table of marks, by the classes of the first and the next mark.
-use Rattle.std.specs.Prelude.{List, ℕ, zero, suc, leb, get_or}
+use Rattle.std.specs.Prelude.{List, ℕ, zero, suc, leb, get_or, if◌then◌else◌}
 use Rattle.std.proofs.Math.Option.{Option, none, some}
-use Rattle.characters.specs.Choice.{if◌then◌else◌}
 use Rattle.rules.specs.Text.{Char}
 use Rattle.rules.specs.Tables.{Row, MARKS, THIRDS, lookup}
 use Rattle.lexemes.specs.Lists.{rows_of}

@@ -1,4 +1,5 @@
 -- Tokens that go over lines, by what the walks found. Assumes nothing.
+use Rattle.std.specs.Prelude.{if◌then◌else◌}
 use mathlib.Core.Path.{◌≡◌, refl, sym, ◌∙◌, ap, subst}
 use mathlib.Core.Bool.{true, not, false≢true}
 use mathlib.Core.List.{List, [], ◌∷◌, ◌++◌}
@@ -7,7 +8,6 @@ use Prim.Native.Nat.{ℕ, ◌+◌, ◌≤◌, ◌<◌}
 use lib.ListN.{length, take, drop}
 use lib.Seq.{slice, length-slice}
 use native.Mathlib.Omega.{arith}
-use Rattle.characters.specs.Choice.{if◌then◌else◌}
 use Rattle.characters.specs.Utf8.{Scalars, chars_at, chars_of, encode, encode_char, bytes, width}
 use Rattle.characters.proofs.Characters.{chars_at_lem}
 use Rattle.characters.proofs.Texts.{chars_scalar, scalars_split, encode_chars}

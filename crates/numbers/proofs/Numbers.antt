@@ -1,4 +1,5 @@
 -- Laws of the parts of a number, at byte places. Assumes nothing.
+use Rattle.std.specs.Prelude.{if◌then◌else◌}
 use mathlib.Core.Path.{◌≡◌, refl, sym, ◌∙◌, subst}
 use mathlib.Core.Bool.{Bool, true, false, false≢true}
 use mathlib.Core.List.{List, [], ◌∷◌}
@@ -7,7 +8,7 @@ use lib.Dec.{ltb}
 use lib.ListN.{length, get_or}
 use native.Mathlib.Omega.{arith}
 use borrow.Author.Tests.{lt-ltb, le-ltb, eqb-true}
-use Rattle.characters.specs.Choice.{if◌then◌else◌, ◌is◌, within}
+use Rattle.characters.specs.Choice.{◌is◌, within}
 use Rattle.characters.specs.Utf8.{chars_at}
 use Rattle.rules.specs.Text.{Char, Text, text, one_of, is_empty, is_digit}
 use Rattle.rules.specs.Scan.{next, run, one_char, nothing, ◌and_then◌}

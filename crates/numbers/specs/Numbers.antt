@@ -1,6 +1,5 @@
 -- The characters and the kinds of numbers.
-use Rattle.std.specs.Prelude.{Bool, ℕ}
-use Rattle.characters.specs.Choice.{if◌then◌else◌}
+use Rattle.std.specs.Prelude.{Bool, ℕ, if◌then◌else◌}
 use Rattle.rules.specs.Text.{Char, text, one_of}
 use Rattle.rules.specs.Tables.{IntLiteral, FloatLiteral}
 

@@ -1,8 +1,8 @@
 -- How long a record is at least and at most. Assumes nothing.
+use Rattle.std.specs.Prelude.{if◌then◌else◌}
 use mathlib.Core.Bool.{Bool, true, false}
 use Prim.Native.Nat.{ℕ, ◌≤◌}
 use native.Mathlib.Omega.{arith}
-use Rattle.characters.specs.Choice.{if◌then◌else◌}
 use Rattle.records.specs.Kinds.{has_text, record_length, has_code, error_length}
 
 either : (t : Bool) (m n : ℕ) → 1 ≤ m → 1 ≤ n → n ≤ m → (1 ≤ (if t then m else n)) × ((if t then m else n) ≤ m)

@@ -1,11 +1,12 @@
 -- Plain characters of a string are written as they stand. Assumes nothing.
+use Rattle.std.specs.Prelude.{if◌then◌else◌}
 use mathlib.Core.Path.{◌≡◌, refl, sym, ap, ◌∙◌}
 use mathlib.Core.Bool.{Bool, true, false, ◌&&◌, not, true≢false}
 use mathlib.Core.List.{List, [], ◌∷◌, ◌++◌}
 use Prim.Native.Nat.{ℕ}
 use native.Mathlib.Omega.{arith}
 use lib.Seq.{slice}
-use Rattle.characters.specs.Choice.{if◌then◌else◌, ◌is◌}
+use Rattle.characters.specs.Choice.{◌is◌}
 use Rattle.characters.specs.Utf8.{chars_at, encode}
 use Rattle.spans.specs.declared.Position.{Position}
 use Rattle.rules.specs.Text.{Char, Text, ch, LF}

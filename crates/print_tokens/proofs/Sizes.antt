@@ -1,10 +1,10 @@
 -- How long the text of a token is. Assumes nothing.
+use Rattle.std.specs.Prelude.{if◌then◌else◌}
 use mathlib.Core.Path.{◌≡◌, refl, ap}
 use mathlib.Core.List.{List, [], ◌∷◌}
 use Prim.Native.Nat.{ℕ, ◌+◌, ◌*◌, ◌-◌, ◌≤◌, zero-le}
 use native.Mathlib.Omega.{arith}
 use lib.ListN.{length}
-use Rattle.characters.specs.Choice.{if◌then◌else◌}
 use Rattle.characters.specs.Utf8.{chars_at, encode, bytes}
 use Rattle.characters.proofs.Choice.{if_all}
 use Rattle.characters.proofs.Texts.{encode_length}

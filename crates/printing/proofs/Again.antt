@@ -1,4 +1,5 @@
 -- From the contract of printing alone: what a yes says, printing the print again, and a buffer that is never short. Assumes nothing.
+use Rattle.std.specs.Prelude.{if◌then◌else◌}
 use mathlib.Core.Path.{◌≡◌, refl, sym, ◌∙◌, ap, subst}
 use mathlib.Core.Bool.{Bool, true, false, ◌&&◌, not, false≢true}
 use mathlib.Core.List.{List, [], ◌∷◌, ◌++◌}
@@ -8,7 +9,6 @@ use borrow.Author.Tests.{leb-true}
 use lib.Dec.{leb}
 use lib.ListN.{length, take, drop}
 use lib.Seq.{take_at, drop_at}
-use Rattle.characters.specs.Choice.{if◌then◌else◌}
 use Rattle.characters.specs.Utf8.{first_bad, is_valid, is_utf8, is_cut, is_barred, bad_class}
 use Rattle.characters.specs.declared.Checked.{Checked}
 use Rattle.characters.specs.declared.Checked.TheVariants.{Valid, BadAt}

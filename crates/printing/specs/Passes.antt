@@ -1,6 +1,5 @@
 -- What one pass of a print promises, and what is asked behind the first.
-use Rattle.std.specs.Prelude.{◌≡◌, Bool, List, ◌++◌, ℕ, length, take, drop}
-use Rattle.characters.specs.Choice.{if◌then◌else◌}
+use Rattle.std.specs.Prelude.{◌≡◌, Bool, List, ◌++◌, ℕ, length, take, drop, if◌then◌else◌}
 use Rattle.print_loop.specs.Loops.{WalkedAt}
 use Rattle.print_loop.specs.declared.Walked.{Walked}
 use Rattle.printing.specs.Printing.{RefusedMistake, RefusedPrint}

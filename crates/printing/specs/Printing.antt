@@ -1,6 +1,5 @@
 -- What printing answers, and what it leaves in the print buffer (document 02, order 2, under "Answers").
-use Rattle.std.specs.Prelude.{◌≡◌, not, List, [], ◌∷◌, ◌++◌, ℕ, leb, length, drop}
-use Rattle.characters.specs.Choice.{if◌then◌else◌}
+use Rattle.std.specs.Prelude.{◌≡◌, not, List, [], ◌∷◌, ◌++◌, ℕ, leb, length, drop, if◌then◌else◌}
 use Rattle.rules.specs.Tokens.{TokenizeError}
 use Rattle.rules.specs.Script.{script_errors}
 use Rattle.records.specs.Answers.{Answer, got, refused}

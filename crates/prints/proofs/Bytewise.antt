@@ -1,5 +1,6 @@
 -- The print can be written byte by byte: what is escaped is below U+0080, so the print's bytes are the layout of the elements with their
 -- texts as bytes. Assumes nothing.
+use Rattle.std.specs.Prelude.{if◌then◌else◌}
 use mathlib.Core.Path.{◌≡◌, refl, sym, ap, ap₂, ◌∙◌}
 use mathlib.Core.Logic.{◌⊎◌, inl, inr}
 use mathlib.Core.Bool.{Bool, true, false, ◌&&◌, ◌||◌, not}
@@ -9,7 +10,7 @@ use native.Mathlib.Omega.{arith}
 use borrow.Author.Tests.{leb-true}
 use lib.Dec.{leb}
 use lib.ListN.{length}
-use Rattle.characters.specs.Choice.{if◌then◌else◌, ◌is◌}
+use Rattle.characters.specs.Choice.{◌is◌}
 use Rattle.characters.specs.Utf8.{encode_char, encode}
 use Rattle.characters.proofs.Choice.{if_all, if_both, le_or_lt}
 use Rattle.characters.proofs.Widths.{char_length, encode_one}

@@ -1,5 +1,6 @@
 -- How tokens tell the elements of a script: the pieces of a string share its start, at which a quote stands; every other token starts
 -- for itself, where no quote stands. Assumes nothing.
+use Rattle.std.specs.Prelude.{if◌then◌else◌}
 use mathlib.Core.Path.{◌≡◌, refl, sym, ◌∙◌, ap₂, ap}
 use mathlib.Core.Logic.{◌⊎◌, inl, inr}
 use mathlib.Core.Bool.{Bool, true, false, ◌&&◌, not, false≢true, true≢false}
@@ -10,7 +11,7 @@ use native.Mathlib.Omega.{arith}
 use borrow.Author.Tests.{not-true}
 use lib.Seq.{get_or_at}
 use lib.ListN.{length, length-append, drop, take, get_or, length-map}
-use Rattle.characters.specs.Choice.{◌is◌, if◌then◌else◌}
+use Rattle.characters.specs.Choice.{◌is◌}
 use Rattle.characters.specs.Utf8.{encode, encode_char, bytes}
 use Rattle.characters.specs.Space.{is_white}
 use Rattle.byte_order_mark.specs.Mark.{after_mark}

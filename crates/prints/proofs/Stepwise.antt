@@ -1,12 +1,13 @@
 -- The print one token at a time: what is written for the tokens of a script, one after another, is its print. So a loop that scans the
 -- script and writes what each token asks for needs a state beside the cursor, and nothing else. Assumes nothing.
+use Rattle.std.specs.Prelude.{if◌then◌else◌}
 use mathlib.Core.Path.{◌≡◌, refl, sym, ap, ◌∙◌}
 use mathlib.Core.Bool.{Bool, true, false, ◌&&◌, not, true≢false}
 use mathlib.Core.List.{List, [], ◌∷◌, ◌++◌, map, append_assoc, append-nil}
 use Prim.Native.Nat.{ℕ, suc, ◌≤◌, ◌<◌, ◌+◌, ◌*◌}
 use native.Mathlib.Omega.{arith}
 use lib.ListN.{length, drop, length-append}
-use Rattle.characters.specs.Choice.{if◌then◌else◌, ◌is◌}
+use Rattle.characters.specs.Choice.{◌is◌}
 use Rattle.byte_order_mark.specs.Mark.{after_mark}
 use Rattle.characters.proofs.Choice.{if_both}
 use Rattle.rules.specs.Text.{Text, ch, text, is_empty, Char, LF, one_of}

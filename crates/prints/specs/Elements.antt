@@ -1,7 +1,6 @@
 -- The lexical elements of a script: its tokens by kind and text, grouped into strings. They tell all that a print has to keep: kinds and
 -- texts, the grouping of pieces into strings, and whether a 121 stands in a string. Positions play no part in them.
-use Rattle.std.specs.Prelude.{List, [], ◌∷◌, ◌++◌, map, ℕ}
-use Rattle.characters.specs.Choice.{if◌then◌else◌}
+use Rattle.std.specs.Prelude.{List, [], ◌∷◌, ◌++◌, map, ℕ, if◌then◌else◌}
 use Rattle.characters.specs.Utf8.{encode}
 use Rattle.rules.specs.Text.{Text, text}
 use Rattle.rules.specs.Scan.{starts_with}

@@ -1,7 +1,7 @@
 -- The print as it is written from left to right, token by token. What the parts of the writing promise each other speaks of it; the
 -- promise of the print itself does not.
-use Rattle.std.specs.Prelude.{Bool, true, false, ◌&&◌, ◌||◌, not, List, [], ◌∷◌, ◌++◌, ℕ, suc}
-use Rattle.characters.specs.Choice.{if◌then◌else◌, ◌is◌}
+use Rattle.std.specs.Prelude.{Bool, true, false, ◌&&◌, ◌||◌, not, List, [], ◌∷◌, ◌++◌, ℕ, suc, if◌then◌else◌}
+use Rattle.characters.specs.Choice.{◌is◌}
 use Rattle.rules.specs.Text.{Text, ch, text, LF}
 use Rattle.rules.specs.Tokens.{Token}
 use Rattle.rules.specs.Tables.{StringInterpStart, EOF}

@@ -1,6 +1,5 @@
 -- Questions 1 to 5 (document 01, "Questions before the answer").
-use Rattle.std.specs.Prelude.{not, List, ℕ, leb, length, drop}
-use Rattle.characters.specs.Choice.{if◌then◌else◌}
+use Rattle.std.specs.Prelude.{not, List, ℕ, leb, length, drop, if◌then◌else◌}
 use Rattle.characters.specs.Utf8.{first_bad, bad_class}
 use Rattle.characters.specs.declared.Checked.{Checked}
 use Rattle.characters.specs.declared.Checked.TheVariants.{Valid, BadAt}

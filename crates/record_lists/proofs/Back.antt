@@ -1,4 +1,5 @@
 -- Reading what was written gives it back: one record, and all records of a buffer. Assumes nothing.
+use Rattle.std.specs.Prelude.{if◌then◌else◌}
 use mathlib.Core.Path.{◌≡◌, refl, sym, ◌∙◌, ap}
 use mathlib.Core.Bool.{Bool, true, false}
 use mathlib.Core.List.{List, [], ◌∷◌, ◌++◌, append_assoc, append-nil}
@@ -8,7 +9,7 @@ use lib.Seq.{sets, take-append_seam, drop-append_seam}
 use borrow.Author.Tests.{le-leb, eq-eqb, ne_eqb}
 use native.Mathlib.Nat.{not-suc-le-zero, le_of_suc-le-suc, le_refl, zero-add, add-zero, suc-add}
 use native.Mathlib.Omega.{arith}
-use Rattle.characters.specs.Choice.{if◌then◌else◌, ◌is◌}
+use Rattle.characters.specs.Choice.{◌is◌}
 use Rattle.rules.specs.Tokens.{Token, TokenizeError}
 use Rattle.rules.specs.Tables.{EOF}
 use Rattle.rules.specs.Bounds.{Every, Small}

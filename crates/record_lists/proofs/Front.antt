@@ -1,4 +1,5 @@
 -- A record that was written is read back where it stands in front. Assumes nothing.
+use Rattle.std.specs.Prelude.{if◌then◌else◌}
 use mathlib.Core.Path.{◌≡◌, refl}
 use mathlib.Core.Bool.{true, false}
 use mathlib.Core.List.{List, [], ◌++◌, append_assoc}
@@ -7,7 +8,7 @@ use lib.ListN.{length, length-append}
 use borrow.Author.Tests.{le-leb}
 use native.Mathlib.Nat.{mod-eq_of_lt}
 use native.Mathlib.Omega.{arith}
-use Rattle.characters.specs.Choice.{if◌then◌else◌, within}
+use Rattle.characters.specs.Choice.{within}
 use Rattle.spans.specs.declared.Span.{Span}
 use Rattle.records.specs.Kinds.{is_kind, has_text, record_length, is_error_kind, has_code, error_length}
 use Rattle.records.specs.Records.{le32, pair_bytes, span_bytes, head_bytes, token_record, error_record}

@@ -1,4 +1,5 @@
 -- Laws of what stands at a place. Assumes nothing.
+use Rattle.std.specs.Prelude.{if◌then◌else◌}
 use mathlib.Core.Path.{◌≡◌, refl}
 use mathlib.Core.Bool.{Bool, true, false, ◌&&◌, false≢true}
 use mathlib.Core.List.{List}
@@ -7,7 +8,7 @@ use lib.Dec.{leb}
 use lib.ListN.{length}
 use borrow.Author.Tests.{le-leb, lt-leb, leb-true, leb-false, eq-eqb, ne_eqb}
 use native.Mathlib.Omega.{arith}
-use Rattle.characters.specs.Choice.{if◌then◌else◌, within}
+use Rattle.characters.specs.Choice.{within}
 use Rattle.spans.specs.declared.Span.{Span}
 use Rattle.records.specs.Kinds.{is_kind, has_text, record_length, is_error_kind, has_code, error_length}
 use Rattle.record_reading.specs.Reading.{num32, span_at, kind_at, is_whole, record_at, is_whole_error, error_at, after_at}

@@ -1,7 +1,7 @@
 -- What the reader answers at a place of a lent slice (document 01, "Questions before the answer"). A place is any number, and a
 -- byte that the slice lacks is read as 0.
-use Rattle.std.specs.Prelude.{ℕ, ◌+◌, ◌*◌, Bool, ◌&&◌, not, List, leb, length, get_or}
-use Rattle.characters.specs.Choice.{if◌then◌else◌, ◌is◌}
+use Rattle.std.specs.Prelude.{ℕ, ◌+◌, ◌*◌, Bool, ◌&&◌, not, List, leb, length, get_or, if◌then◌else◌}
+use Rattle.characters.specs.Choice.{◌is◌}
 use Rattle.spans.specs.declared.Span.{Span}
 use Rattle.rules.specs.Tables.{EOF}
 use Rattle.records.specs.Fields.{END, START_LINE, START_COL, END_LINE, END_COL, TEXT_OFFSET, TEXT_LENGTH, CODE_POINT}

@@ -1,4 +1,5 @@
 -- Laws of the text call and of its check. Assumes nothing.
+use Rattle.std.specs.Prelude.{if◌then◌else◌}
 use mathlib.Core.Path.{◌≡◌, refl}
 use mathlib.Core.Bool.{Bool, true, false, not}
 use mathlib.Core.List.{List, []}
@@ -8,7 +9,6 @@ use lib.ListN.{length, take, drop}
 use borrow.Author.Tests.{lt-leb, leb-true}
 use native.Mathlib.Nat.{add-sub_cancel_left}
 use native.Mathlib.Omega.{arith}
-use Rattle.characters.specs.Choice.{if◌then◌else◌}
 use Rattle.byte_order_mark.specs.Mark.{mark_length, after_mark}
 use Rattle.byte_order_mark.specs.Slices.{bytes_behind}
 use Rattle.records.specs.Kinds.{has_text, is_made}

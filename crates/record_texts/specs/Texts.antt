@@ -1,6 +1,5 @@
 -- The text of the record at a place, and the check before it (document 01, "Records" and question 8).
-use Rattle.std.specs.Prelude.{ℕ, ◌+◌, Bool, not, List, [], leb, length, take, drop}
-use Rattle.characters.specs.Choice.{if◌then◌else◌}
+use Rattle.std.specs.Prelude.{ℕ, ◌+◌, Bool, not, List, [], leb, length, take, drop, if◌then◌else◌}
 use Rattle.byte_order_mark.specs.Mark.{mark_length, after_mark}
 use Rattle.byte_order_mark.specs.Slices.{bytes_behind}
 use Rattle.records.specs.Kinds.{has_text, is_made}

@@ -1,11 +1,11 @@
 -- Laws of the bytes of a record. Assumes nothing.
+use Rattle.std.specs.Prelude.{if◌then◌else◌}
 use mathlib.Core.Path.{◌≡◌, refl, ◌∙◌}
 use mathlib.Core.Bool.{Bool, true, false}
 use mathlib.Core.List.{List, [], append-nil}
 use Prim.Native.Nat.{ℕ, ◌+◌}
 use lib.ListN.{length, length-append}
 use lib.Seq.{sets}
-use Rattle.characters.specs.Choice.{if◌then◌else◌}
 use Rattle.spans.specs.declared.Span.{Span}
 use Rattle.records.specs.Kinds.{has_text, record_length, has_code, error_length}
 use Rattle.records.specs.Records.{le32, pair_bytes, span_bytes, head_bytes, token_record, error_record}

@@ -1,6 +1,6 @@
 -- What the kind of a record fixes (document 01, "Records").
-use Rattle.std.specs.Prelude.{ℕ, Bool, ◌||◌, leb}
-use Rattle.characters.specs.Choice.{if◌then◌else◌, ◌is◌, within}
+use Rattle.std.specs.Prelude.{ℕ, Bool, ◌||◌, leb, if◌then◌else◌}
+use Rattle.characters.specs.Choice.{◌is◌, within}
 use Rattle.rules.specs.Tables.{StringLiteral, CharLiteral, Ident, UnitKeyword, StringInterpStart, DocComment, Error}
 use Rattle.rules.specs.Tables.{UnexpectedCharacter, BadEscape, UnterminatedDocComment}
 use Rattle.records.specs.Fields.{HEAD, WITH_TEXT, WITH_CODE}

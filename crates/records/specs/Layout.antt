@@ -1,7 +1,6 @@
 -- How the tokens and the errors of a script lie in the three buffers (document 01, "Records").
-use Rattle.std.specs.Prelude.{ℕ, ◌+◌, List, [], ◌∷◌, ◌++◌, length}
+use Rattle.std.specs.Prelude.{ℕ, ◌+◌, List, [], ◌∷◌, ◌++◌, length, if◌then◌else◌}
 use Rattle.std.proofs.Math.Option.{Option, none, some}
-use Rattle.characters.specs.Choice.{if◌then◌else◌}
 use Rattle.rules.specs.Tokens.{Token, TokenizeError}
 use Rattle.records.specs.Kinds.{is_made}
 use Rattle.records.specs.Records.{token_record, error_record}

@@ -1,7 +1,6 @@
 -- The bytes of a record: the kind, the six span fields and what the kind adds, each number 32-bit little-endian (document 01,
 -- "Records").
-use Rattle.std.specs.Prelude.{ℕ, ◌/◌, ◌%◌, List, [], ◌∷◌, ◌++◌}
-use Rattle.characters.specs.Choice.{if◌then◌else◌}
+use Rattle.std.specs.Prelude.{ℕ, ◌/◌, ◌%◌, List, [], ◌∷◌, ◌++◌, if◌then◌else◌}
 use Rattle.spans.specs.declared.Span.{Span}
 use Rattle.records.specs.Kinds.{has_text, has_code}
 

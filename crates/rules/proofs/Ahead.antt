@@ -1,12 +1,13 @@
 -- Looking ahead at the front of a text `cs` sees the same with a line feed and any text `B` behind it, unless what is looked at
 -- runs out with `cs`. `X` below is that line feed and `B`. Assumes nothing.
+use Rattle.std.specs.Prelude.{if◌then◌else◌}
 use mathlib.Core.Path.{◌≡◌, refl, ap}
 use mathlib.Core.Bool.{Bool, true, false, ◌&&◌, ◌||◌, true≢false, false≢true}
 use mathlib.Core.List.{[], ◌∷◌, ◌++◌}
 use Prim.Native.Nat.{ℕ}
 use lib.ListN.{length, drop}
 use borrow.Author.Tests.{eqb-true, ne_eqb}
-use Rattle.characters.specs.Choice.{if◌then◌else◌, ◌is◌}
+use Rattle.characters.specs.Choice.{◌is◌}
 use Rattle.characters.proofs.Choice.{if_both, if_rel, and_both, or_neither}
 use Rattle.rules.specs.Text.{Char, Text, one_of, LF}
 use Rattle.rules.specs.Scan.{next, starts_with, Part, run, one_char, takes, ◌and_then◌, Upto, passes, up_to}
@@ -14,10 +15,10 @@ use Rattle.rules.specs.Scan.{next, starts_with, Part, run, one_char, takes, ◌a
 -- ── Tests ──
 
 -- `x'` is `x`, unless the text ran out in `x`.
-abbrev pub Keeps {ℓ} : {A : Type ℓ} → (A → Bool) → A → A → Type ℓ
+abbrev pub Keeps : {A : Type 0} → (A → Bool) → A → A → Type 0
 Keeps ran_out x x' = ran_out x ≡ false → x' ≡ x
 
-pub keeps_if {ℓ} : {A : Type ℓ} (o : A → Bool) (b b' : Bool) {x y x' y' : A}
+pub keeps_if : {A : Type 0} (o : A → Bool) (b b' : Bool) {x y x' y' : A}
     → b' ≡ b → (b ≡ true → Keeps o x x') → (b ≡ false → Keeps o y y') → Keeps o (if b then x else y) (if b' then x' else y')
 keeps_if o b b' e f g = if_rel (Keeps o) b b' e f g
 

@@ -1,4 +1,5 @@
 -- The errors of a segment: their kinds, and the code points that kinds 1 and 7 name, which are characters of the text. Assumes nothing.
+use Rattle.std.specs.Prelude.{if◌then◌else◌}
 use mathlib.Core.Path.{◌≡◌, refl, sym, ◌∙◌}
 use mathlib.Core.Bool.{Bool, true, false, ◌&&◌, ◌||◌, not, true≢false}
 use mathlib.Core.List.{List, [], ◌∷◌}
@@ -6,7 +7,7 @@ use mathlib.Core.Option.{Option, none, some}
 use Prim.Native.Nat.{ℕ, zero, suc, ◌≤◌}
 use native.Mathlib.Omega.{arith}
 use lib.ListN.{drop}
-use Rattle.characters.specs.Choice.{if◌then◌else◌, ◌is◌}
+use Rattle.characters.specs.Choice.{◌is◌}
 use Rattle.characters.specs.Space.{is_white}
 use Rattle.characters.proofs.Choice.{if_all}
 use Rattle.rules.specs.Text.{Char, Text, ch, text, LF, is_digit, is_ident_start}

@@ -1,4 +1,5 @@
 -- The suffix law: a segment in which the text did not run out is the same with a line feed and any text behind. Assumes nothing.
+use Rattle.std.specs.Prelude.{if◌then◌else◌}
 use mathlib.Core.Path.{◌≡◌, refl, ap, ap₂}
 use mathlib.Core.Bool.{Bool, true, false, ◌&&◌, not, true≢false, false≢true}
 use mathlib.Core.List.{List, [], ◌∷◌, ◌++◌}
@@ -7,7 +8,7 @@ use Prim.Native.Nat.{ℕ, zero, suc, ◌+◌, ◌*◌, ◌≤◌, zero-le, suc-l
 use native.Mathlib.Omega.{arith}
 use lib.Seq.{take-append-le, drop-append-le}
 use lib.ListN.{length, drop}
-use Rattle.characters.specs.Choice.{if◌then◌else◌, ◌is◌, within}
+use Rattle.characters.specs.Choice.{◌is◌, within}
 use Rattle.characters.specs.Space.{is_white}
 use Rattle.characters.proofs.Choice.{if_all, if_both}
 use Rattle.rules.specs.Text.{Char, Text, ch, text, one_of, LF, is_digit, is_letter, is_hex_digit, is_ident_start, is_ident_part, hex_value}

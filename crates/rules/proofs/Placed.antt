@@ -1,5 +1,6 @@
 -- Positions move along with the shift, and lexing moves with them; offsets are bytes; a span from one position to a later one is the
 -- pair of the two. Assumes nothing.
+use Rattle.std.specs.Prelude.{if◌then◌else◌}
 use mathlib.Core.Path.{◌≡◌, refl, sym, ◌∙◌}
 use mathlib.Core.Logic.{⊎_elim}
 use mathlib.Core.List.{List, [], ◌∷◌, map, map-append}
@@ -8,7 +9,7 @@ use native.Mathlib.Omega.{arith}
 use lib.Dec.{leb}
 use lib.ListN.{take}
 use borrow.Author.Tests.{le-leb, lt-leb, leb-true, leb-false}
-use Rattle.characters.specs.Choice.{if◌then◌else◌, ◌is◌}
+use Rattle.characters.specs.Choice.{◌is◌}
 use Rattle.characters.specs.Utf8.{width, bytes}
 use Rattle.characters.proofs.Choice.{if_all, if_both, le_or_lt}
 use Rattle.characters.proofs.Widths.{width_bounds}

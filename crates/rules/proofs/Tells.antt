@@ -1,5 +1,6 @@
 -- What an open segment tells with a lone line feed behind: it swallows the line feed, and a token or an error ends behind it, or it
 -- is a string that the line feed breaks, with one error 5 more. Nothing here looks at lines or columns. Assumes nothing.
+use Rattle.std.specs.Prelude.{if◌then◌else◌}
 use mathlib.Core.Path.{◌≡◌, refl, sym, ap, ap₂, ◌∙◌}
 use mathlib.Core.Logic.{◌⊎◌, inl, inr, ⊎_map, ⊎_elim}
 use mathlib.Core.Bool.{Bool, true, false, ◌&&◌, not, false≢true}
@@ -8,7 +9,7 @@ use mathlib.Core.Option.{Option, none, some}
 use Prim.Native.Nat.{ℕ, zero, suc, ◌+◌, max, ◌≤◌, ◌<◌}
 use native.Mathlib.Omega.{arith}
 use lib.ListN.{length, drop}
-use Rattle.characters.specs.Choice.{if◌then◌else◌, ◌is◌, within}
+use Rattle.characters.specs.Choice.{◌is◌, within}
 use Rattle.characters.specs.Space.{is_white}
 use Rattle.characters.proofs.Choice.{if_all, if_rel}
 use Rattle.rules.specs.Text.{Char, Text, ch, text, one_of, LF, is_digit, is_ident_start, is_letter}

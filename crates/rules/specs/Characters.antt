@@ -1,6 +1,6 @@
 -- Character literals: `parse_char` (lexer.rs, lines 776 to 851).
-use Rattle.std.specs.Prelude.{Bool, true, false, List, [], ◌∷◌, ◌++◌, length, take, drop}
-use Rattle.characters.specs.Choice.{if◌then◌else◌, ◌is◌}
+use Rattle.std.specs.Prelude.{Bool, true, false, List, [], ◌∷◌, ◌++◌, length, take, drop, if◌then◌else◌}
+use Rattle.characters.specs.Choice.{◌is◌}
 use Rattle.rules.specs.Text.{Text, ch, text}
 use Rattle.rules.specs.Scan.{starts_with}
 use Rattle.rules.specs.Tables.{CharLiteral, UnterminatedCharacter}

@@ -1,6 +1,6 @@
 -- White space and the comments that are skipped: `skip_whitespace_and_comments` (lexer.rs, lines 346 to 411).
-use Rattle.std.specs.Prelude.{Bool, false, not, [], ◌∷◌, ◌++◌, length}
-use Rattle.characters.specs.Choice.{if◌then◌else◌, ◌is◌}
+use Rattle.std.specs.Prelude.{Bool, false, not, [], ◌∷◌, ◌++◌, length, if◌then◌else◌}
+use Rattle.characters.specs.Choice.{◌is◌}
 use Rattle.rules.specs.Text.{Char, Text, text, LF}
 use Rattle.rules.specs.Scan.{run, Upto, closing}
 use Rattle.rules.specs.Tables.{UnterminatedBlockComment}

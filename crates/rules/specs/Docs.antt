@@ -1,6 +1,6 @@
 -- Documentation comments, and what begins with a slash: `parse_slash_or_comment` (lexer.rs, lines 928 to 998).
-use Rattle.std.specs.Prelude.{◌&&◌, not, List, [], ◌∷◌, ◌++◌, map, length, drop}
-use Rattle.characters.specs.Choice.{if◌then◌else◌, ◌is◌}
+use Rattle.std.specs.Prelude.{◌&&◌, not, List, [], ◌∷◌, ◌++◌, map, length, drop, if◌then◌else◌}
+use Rattle.characters.specs.Choice.{◌is◌}
 use Rattle.characters.specs.Space.{is_white}
 use Rattle.rules.specs.Text.{Char, Text, ch, text, LF, is_empty}
 use Rattle.rules.specs.Scan.{starts_with, run, Upto, up_to, closing}

@@ -1,8 +1,8 @@
 -- The lexer. `segment` looks at the front of what is left of a text and answers one lexical element: a character of white space, a
 -- comment, a token, or a whole string with all its pieces. `segments` cuts a text into such elements, one after another, and `place`
 -- gives each its positions.
-use Rattle.std.specs.Prelude.{Bool, true, false, ◌||◌, not, List, [], ◌∷◌, ◌++◌, ℕ, zero, suc, ◌+◌, length, take, drop}
-use Rattle.characters.specs.Choice.{if◌then◌else◌, ◌is◌}
+use Rattle.std.specs.Prelude.{Bool, true, false, ◌||◌, not, List, [], ◌∷◌, ◌++◌, ℕ, zero, suc, ◌+◌, length, take, drop, if◌then◌else◌}
+use Rattle.characters.specs.Choice.{◌is◌}
 use Rattle.characters.specs.Utf8.{width}
 use Rattle.characters.specs.Space.{is_white}
 use Rattle.spans.specs.declared.Position.{Position}

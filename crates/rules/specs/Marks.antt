@@ -1,8 +1,8 @@
 -- Delimiters and marks: `delim_token` (lexer.rs, lines 313 to 320), `parse_plus` to `parse_question` (lines 857 to 1221), and a
 -- character that begins nothing (lines 249 to 257).
-use Rattle.std.specs.Prelude.{false, [], ◌∷◌, ℕ}
+use Rattle.std.specs.Prelude.{false, [], ◌∷◌, ℕ, if◌then◌else◌}
 use Rattle.std.proofs.Math.Option.{Option, none, some}
-use Rattle.characters.specs.Choice.{if◌then◌else◌, ◌is◌}
+use Rattle.characters.specs.Choice.{◌is◌}
 use Rattle.rules.specs.Text.{Char, Text, text}
 use Rattle.rules.specs.Scan.{starts_with}
 use Rattle.rules.specs.Tables.{Error, UnexpectedCharacter, DoubleColonT, Row, MARKS, THIRDS, lookup}

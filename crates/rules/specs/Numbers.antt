@@ -1,6 +1,6 @@
 -- Numbers: `parse_number` and `maybe_suffix` (lexer.rs, lines 417 to 530).
-use Rattle.std.specs.Prelude.{Bool, false, ◌&&◌, ◌||◌, [], ◌∷◌, ℕ}
-use Rattle.characters.specs.Choice.{if◌then◌else◌, ◌is◌}
+use Rattle.std.specs.Prelude.{Bool, false, ◌&&◌, ◌||◌, [], ◌∷◌, ℕ, if◌then◌else◌}
+use Rattle.characters.specs.Choice.{◌is◌}
 use Rattle.rules.specs.Text.{Char, Text, ch, text, one_of, is_digit, is_hex_digit, is_empty}
 use Rattle.rules.specs.Scan.{next, Part, nothing, takes, run, one_char, ◌and_then◌}
 use Rattle.rules.specs.Tables.{IntLiteral, FloatLiteral}

@@ -1,8 +1,8 @@
 -- The shift of a script that stands behind another one and a line feed (document 01, "The shift"), and what it is to join two
 -- scripts and to be closed exactly (demand 3).
-use Rattle.std.specs.Prelude.{◌≡◌, ◌↔◌, Bool, true, false, ℕ, suc, ◌+◌, ◌≤◌, length}
+use Rattle.std.specs.Prelude.{◌≡◌, ◌↔◌, Bool, true, false, ℕ, suc, ◌+◌, ◌≤◌, length, if◌then◌else◌}
 use mathlib.Core.List.{List, ◌∷◌, ◌++◌, map, drop_last}
-use Rattle.characters.specs.Choice.{if◌then◌else◌, ◌is◌}
+use Rattle.characters.specs.Choice.{◌is◌}
 use Rattle.byte_order_mark.specs.Mark.{has_mark, after_mark}
 use Rattle.spans.specs.declared.Span.{Span}
 use Rattle.rules.specs.Text.{LF}

@@ -1,8 +1,8 @@
 -- Raw strings, escapes, and ordinary strings with interpolation: `parse_raw_string` (lexer.rs, lines 564 to 592) and
 -- `parse_string_tokens` (lines 601 to 770).
-use Rattle.std.specs.Prelude.{Bool, true, false, ◌&&◌, ◌||◌, not, List, [], ◌∷◌, ◌++◌, ℕ, zero, suc, ◌+◌, ◌*◌, length, drop}
+use Rattle.std.specs.Prelude.{Bool, true, false, ◌&&◌, ◌||◌, not, List, [], ◌∷◌, ◌++◌, ℕ, zero, suc, ◌+◌, ◌*◌, length, drop, if◌then◌else◌}
 use Rattle.std.proofs.Math.Option.{Option, none, some}
-use Rattle.characters.specs.Choice.{if◌then◌else◌, ◌is◌, within}
+use Rattle.characters.specs.Choice.{◌is◌, within}
 use Rattle.rules.specs.Text.{Char, Text, ch, text, LF, is_hex_digit, is_ident_start, is_ident_part, hex_value, is_empty}
 use Rattle.rules.specs.Scan.{next, starts_with, run, Upto, up_to, closing}
 use Rattle.rules.specs.Tables.{StringLiteral, StringInterpStart, UnterminatedRawString, UnterminatedString, LineFeedInString, BadUnicodeEscape, BadEscape, UnterminatedInterpolation, ESCAPES, lookup}

@@ -1,7 +1,7 @@
 -- The tables of the lexer: kinds, keywords, marks, escapes. A kind is its place in `TokenKind` (token.rs, lines 6 to 158), from 0.
-use Rattle.std.specs.Prelude.{true, false, List, [], ◌∷◌, ℕ}
+use Rattle.std.specs.Prelude.{true, false, List, [], ◌∷◌, ℕ, if◌then◌else◌}
 use Rattle.std.proofs.Math.Option.{Option, none, some}
-use Rattle.characters.specs.Choice.{if◌then◌else◌, ◌is◌}
+use Rattle.characters.specs.Choice.{◌is◌}
 use Rattle.rules.specs.Text.{Char, Text, ch, text, same_text}
 
 -- The kinds of tokens that the rules and the records name. (`Unit` of token.rs has another name here, since the library has one of
@@ -156,6 +156,6 @@ ESCAPES =
     ∷ (ch "0", 0) ∷ (ch "b", 0x8) ∷ (ch "f", 0xC) ∷ (ch "v", 0xB) ∷ (ch "/", ch "/") ∷ []
 
 -- What a table has for a number: the first row that has it.
-unfoldable pub lookup {ℓ} : {A : Type ℓ} → ℕ → List (ℕ × A) → Option A
+unfoldable pub lookup : {A : Type 0} → ℕ → List (ℕ × A) → Option A
 lookup c [] = none
 lookup c (row ∷ rows) = if c is row.0 then some row.1 else lookup c rows

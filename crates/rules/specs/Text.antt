@@ -1,9 +1,9 @@
 -- Texts and the classes of characters. A character is its code point, and a text is a list of characters.
 -- A quoted text stands for its characters: `text "val"` is the list 118, 97, 108, and `ch "a"` is 97.
-use Rattle.std.specs.Prelude.{Bool, true, false, ◌&&◌, ◌||◌, List, [], ◌∷◌, ℕ, ◌-◌}
+use Rattle.std.specs.Prelude.{Bool, true, false, ◌&&◌, ◌||◌, List, [], ◌∷◌, ℕ, ◌-◌, if◌then◌else◌}
 use Prim.Native.Char.{Char as Letter, code}
 use Prim.Native.String.{String, [] as no_letter, ◌∷◌ as ◌letter_then◌}
-use Rattle.characters.specs.Choice.{if◌then◌else◌, ◌is◌, within}
+use Rattle.characters.specs.Choice.{◌is◌, within}
 
 abbrev pub Char : Type 0
 Char = ℕ

@@ -1,11 +1,11 @@
 -- Comments that are skipped, by what the walks found. Assumes nothing.
+use Rattle.std.specs.Prelude.{if◌then◌else◌}
 use mathlib.Core.Path.{◌≡◌, refl, sym, ◌∙◌, ap, subst}
 use mathlib.Core.Bool.{Bool, true, false, not, true≢false}
 use mathlib.Core.List.{List, []}
 use Prim.Native.Nat.{ℕ}
 use lib.ListN.{drop}
 use native.Mathlib.Omega.{arith}
-use Rattle.characters.specs.Choice.{if◌then◌else◌}
 use Rattle.characters.specs.Utf8.{chars_at}
 use Rattle.characters.proofs.Choice.{and_both}
 use Rattle.spans.specs.declared.Position.{Position}

@@ -1,4 +1,5 @@
 -- White space and comments one after another: nothing is yielded, but the error of a comment that is not closed. Assumes nothing.
+use Rattle.std.specs.Prelude.{if◌then◌else◌}
 use mathlib.Core.Path.{◌≡◌, refl, sym, ◌∙◌, ap, ap₂, subst}
 use mathlib.Core.Bool.{Bool, true, false, not, false≢true}
 use mathlib.Core.List.{List, [], ◌∷◌}
@@ -7,7 +8,7 @@ use Prim.Native.Nat.{ℕ, ◌-◌, ◌≤◌, ◌<◌}
 use lib.ListN.{length, get_or, get_or-eq_default}
 use native.Mathlib.Omega.{arith}
 use borrow.Author.Tests.{eqb-true, eqb-false, eq-eqb, ne_eqb}
-use Rattle.characters.specs.Choice.{if◌then◌else◌, ◌is◌, within}
+use Rattle.characters.specs.Choice.{◌is◌, within}
 use Rattle.characters.specs.Space.{is_white}
 use Rattle.characters.specs.Utf8.{chars_at}
 use Rattle.characters.proofs.Choice.{if_all, le_or_lt}

@@ -1,6 +1,5 @@
 -- Spans, as in span.rs.
-use Rattle.std.specs.Prelude.{ℕ, leb}
-use Rattle.characters.specs.Choice.{if◌then◌else◌}
+use Rattle.std.specs.Prelude.{ℕ, leb, if◌then◌else◌}
 use Rattle.spans.specs.declared.Span.{Span}
 
 -- `Span::single` (span.rs, lines 13 to 22).

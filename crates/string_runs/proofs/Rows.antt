@@ -1,4 +1,5 @@
 -- Laws of units one after another, and of what is written of them. Assumes nothing.
+use Rattle.std.specs.Prelude.{if◌then◌else◌}
 use mathlib.Core.Path.{◌≡◌, refl, sym, ◌∙◌, ap, ap₂, subst}
 use mathlib.Core.Bool.{Bool, true, false}
 use mathlib.Core.List.{List, [], ◌∷◌, ◌++◌, append_assoc, append-nil}
@@ -8,7 +9,7 @@ use lib.ListN.{length, take, get_or, length-append}
 use lib.Seq.{slice, length-slice, take-append-add}
 use native.Mathlib.Omega.{arith}
 use borrow.Author.Tests.{eq-eqb, le-leb}
-use Rattle.characters.specs.Choice.{if◌then◌else◌, ◌is◌}
+use Rattle.characters.specs.Choice.{◌is◌}
 use Rattle.characters.specs.Utf8.{chars_at, encode, encode_char}
 use Rattle.characters.proofs.Texts.{encode_append}
 use Rattle.spans.specs.declared.Position.{Position}

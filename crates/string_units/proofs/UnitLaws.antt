@@ -1,4 +1,5 @@
 -- Laws of one unit of a string. Assumes nothing.
+use Rattle.std.specs.Prelude.{if◌then◌else◌}
 use mathlib.Core.Path.{◌≡◌, refl, sym, ◌∙◌, ap, subst}
 use mathlib.Core.Bool.{Bool, true, false, not, true≢false, false≢true}
 use mathlib.Core.List.{List, [], ◌∷◌, ◌++◌, append-nil}
@@ -9,7 +10,7 @@ use lib.ListN.{length, take}
 use lib.Seq.{slice}
 use native.Mathlib.Omega.{arith}
 use borrow.Author.Tests.{ne_eqb, leb-true, le-leb}
-use Rattle.characters.specs.Choice.{if◌then◌else◌, within}
+use Rattle.characters.specs.Choice.{within}
 use Rattle.characters.specs.Utf8.{chars_at, is_scalar, width, bytes, encode, encode_char}
 use Rattle.characters.proofs.Choice.{and_both}
 use Rattle.characters.proofs.Texts.{encode_length}

@@ -1,4 +1,5 @@
 -- Order 3 of a call of tokenising, from its contract alone. Assumes nothing.
+use Rattle.std.specs.Prelude.{if◌then◌else◌}
 use mathlib.Core.Path.{◌≡◌, refl, ap}
 use mathlib.Core.Bool.{Bool, true, false}
 use mathlib.Core.List.{List, [], ◌∷◌, ◌++◌, flatten, append_assoc}
@@ -6,7 +7,6 @@ use Prim.Native.Nat.{ℕ, ◌+◌, ◌≤◌}
 use native.Mathlib.Omega.{arith}
 use lib.ListN.{length, drop}
 use lib.Seq.{take-append_seam, drop-append_seam}
-use Rattle.characters.specs.Choice.{if◌then◌else◌}
 use Rattle.rules.specs.Tokens.{Token}
 use Rattle.rules.specs.Script.{accepted, script_tokens}
 use Rattle.records.specs.Kinds.{is_made}

@@ -1,4 +1,5 @@
 -- The places that records tell which were written one after another. Assumes nothing.
+use Rattle.std.specs.Prelude.{if◌then◌else◌}
 use mathlib.Core.Path.{◌≡◌, refl, sym, ◌∙◌, ap}
 use mathlib.Core.Bool.{Bool, true, false, true≢false}
 use mathlib.Core.List.{List, [], ◌∷◌, ◌++◌, append_assoc}
@@ -7,7 +8,7 @@ use native.Mathlib.Nat.{not-suc-le-zero, le_of_suc-le-suc, add-zero, zero-add}
 use native.Mathlib.Omega.{arith}
 use borrow.Author.Tests.{eq-eqb, ne_eqb}
 use lib.ListN.{length, length-append}
-use Rattle.characters.specs.Choice.{if◌then◌else◌, ◌is◌}
+use Rattle.characters.specs.Choice.{◌is◌}
 use Rattle.rules.specs.Tokens.{Token}
 use Rattle.rules.specs.Tables.{EOF}
 use Rattle.rules.specs.Bounds.{Every, Small}

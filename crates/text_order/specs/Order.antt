@@ -1,8 +1,7 @@
 -- Where the texts lie in the text buffer (document 02, order 3): "Texts now lie in the order of their tokens, from byte 0, without gaps;
 -- an empty one's offset is the end of the text before it, or 0."
-use Rattle.std.specs.Prelude.{◌≡◌, ℕ, ◌+◌, length, take, drop}
+use Rattle.std.specs.Prelude.{◌≡◌, ℕ, ◌+◌, length, take, drop, if◌then◌else◌}
 use mathlib.Core.List.{List, [], ◌∷◌, flatten}
-use Rattle.characters.specs.Choice.{if◌then◌else◌}
 use Rattle.rules.specs.Tokens.{Token}
 use Rattle.rules.specs.Script.{script_tokens}
 use Rattle.records.specs.Kinds.{is_made}

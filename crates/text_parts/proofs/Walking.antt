@@ -1,4 +1,5 @@
 -- Laws of the walk over the lines of a doc comment. Assumes nothing.
+use Rattle.std.specs.Prelude.{if◌then◌else◌}
 use mathlib.Core.Path.{◌≡◌, refl, sym, ◌∙◌, ap, ap₂, subst}
 use mathlib.Core.Bool.{Bool, true, false, true≢false}
 use mathlib.Core.List.{List, [], ◌∷◌, ◌++◌}
@@ -7,7 +8,7 @@ use native.Mathlib.Omega.{arith}
 use borrow.Author.Tests.{eq-eqb, ne_eqb, eqb-true, eqb-false}
 use lib.ListN.{length, replicate, drop, length-append}
 use lib.Seq.{slice, slice_empty, length-slice}
-use Rattle.characters.specs.Choice.{if◌then◌else◌, ◌is◌}
+use Rattle.characters.specs.Choice.{◌is◌}
 use Rattle.characters.specs.Utf8.{encode_char, encode, chars_at, chars_of, bytes}
 use Rattle.characters.proofs.Choice.{if_both}
 use Rattle.characters.proofs.Widths.{encode_one}

@@ -1,7 +1,7 @@
 -- The text of a block doc comment in parts. `s` is the part of the script between the comment's marks.
-use Rattle.std.specs.Prelude.{◌≡◌, Bool, true, false, List, [], ◌++◌, map, ℕ, ◌-◌, ◌≤◌, ◌<◌, length, replicate}
+use Rattle.std.specs.Prelude.{◌≡◌, Bool, true, false, List, [], ◌++◌, map, ℕ, ◌-◌, ◌≤◌, ◌<◌, length, replicate, if◌then◌else◌}
 use Rattle.std.proofs.Math.Seq.{slice}
-use Rattle.characters.specs.Choice.{if◌then◌else◌, ◌is◌}
+use Rattle.characters.specs.Choice.{◌is◌}
 use Rattle.characters.specs.Utf8.{chars_at, chars_of, encode}
 use Rattle.rules.specs.Text.{LF, one_of}
 use Rattle.rules.specs.Docs.{lines, clean_line, clean_doc}

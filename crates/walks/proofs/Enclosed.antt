@@ -1,4 +1,5 @@
 -- A mark, what stands behind it up to a closing mark, and the closing mark, where there is one. Assumes nothing.
+use Rattle.std.specs.Prelude.{if◌then◌else◌}
 use mathlib.Core.Path.{◌≡◌, refl, sym, ◌∙◌, ap, subst}
 use mathlib.Core.Bool.{Bool, true, false, not}
 use mathlib.Core.List.{List, [], ◌++◌, append_assoc, append_cancel_left}
@@ -6,7 +7,6 @@ use Prim.Native.Nat.{ℕ, ◌+◌, ◌≤◌}
 use lib.ListN.{length, drop}
 use lib.Seq.{drop-append_seam, slice}
 use native.Mathlib.Omega.{arith}
-use Rattle.characters.specs.Choice.{if◌then◌else◌}
 use Rattle.characters.specs.Utf8.{chars_at, bytes, encode}
 use Rattle.characters.proofs.Texts.{chars_slice}
 use Rattle.spans.specs.declared.Position.{Position}

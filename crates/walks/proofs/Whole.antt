@@ -1,4 +1,5 @@
 -- Tokens that end one past their last character, and errors that span their whole segment. Assumes nothing.
+use Rattle.std.specs.Prelude.{if◌then◌else◌}
 use mathlib.Core.Path.{◌≡◌, refl, sym, ◌∙◌, ap, subst}
 use mathlib.Core.Bool.{Bool, true, false, not}
 use mathlib.Core.List.{List, [], ◌∷◌}
@@ -7,7 +8,6 @@ use Prim.Native.Nat.{ℕ, ◌<◌}
 use lib.ListN.{length}
 use lib.Seq.{take-length}
 use native.Mathlib.Omega.{arith}
-use Rattle.characters.specs.Choice.{if◌then◌else◌}
 use Rattle.characters.specs.Utf8.{bytes}
 use Rattle.characters.proofs.Widths.{width_bounds}
 use Rattle.spans.specs.declared.Position.{Position}

@@ -1,7 +1,6 @@
 -- The error of what is not closed.
-use Rattle.std.specs.Prelude.{Bool, List, [], ◌∷◌, ℕ}
+use Rattle.std.specs.Prelude.{Bool, List, [], ◌∷◌, ℕ, if◌then◌else◌}
 use Rattle.std.proofs.Math.Option.{none}
-use Rattle.characters.specs.Choice.{if◌then◌else◌}
 use Rattle.spans.specs.declared.Position.{Position}
 use Rattle.rules.specs.Tokens.{TokenizeError}
 use Rattle.rules.specs.Lexer.{span}

@@ -1,6 +1,5 @@
 -- What walks to a closing mark promise.
-use Rattle.std.specs.Prelude.{◌≡◌, not, List, [], ◌∷◌, ℕ}
-use Rattle.characters.specs.Choice.{if◌then◌else◌}
+use Rattle.std.specs.Prelude.{◌≡◌, not, List, [], ◌∷◌, ℕ, if◌then◌else◌}
 use Rattle.characters.specs.Utf8.{chars_at}
 use Rattle.spans.specs.declared.Position.{Position}
 use Rattle.rules.specs.Text.{Text, text, LF}

@@ -1,4 +1,5 @@
 -- A character of no class of its own begins nothing. Assumes nothing.
+use Rattle.std.specs.Prelude.{if◌then◌else◌}
 use mathlib.Core.Path.{◌≡◌, refl, sym, ap, ◌∙◌, subst}
 use mathlib.Core.Bool.{true, false}
 use mathlib.Core.List.{List, [], ◌∷◌}
@@ -7,7 +8,7 @@ use Prim.Native.Nat.{ℕ, ◌+◌, ◌≤◌, ◌<◌}
 use native.Mathlib.Omega.{arith}
 use lib.ListN.{get_or}
 use borrow.Author.Tests.{eq-eqb}
-use Rattle.characters.specs.Choice.{if◌then◌else◌, ◌is◌, within}
+use Rattle.characters.specs.Choice.{◌is◌, within}
 use Rattle.characters.specs.Space.{is_white}
 use Rattle.characters.specs.Utf8.{chars_at, decode_at}
 use Rattle.characters.specs.declared.Decoded.{Decoded}

@@ -1,6 +1,6 @@
 -- Where a word begins, and the tables that its scanners are lent.
-use Rattle.std.specs.Prelude.{◌≡◌, Bool, true, ◌||◌, not, List, ℕ, ◌+◌, get_or}
-use Rattle.characters.specs.Choice.{if◌then◌else◌, ◌is◌, within}
+use Rattle.std.specs.Prelude.{◌≡◌, Bool, true, ◌||◌, not, List, ℕ, ◌+◌, get_or, if◌then◌else◌}
+use Rattle.characters.specs.Choice.{◌is◌, within}
 use Rattle.characters.specs.Utf8.{chars_at}
 use Rattle.rules.specs.Text.{Text, text}
 use Rattle.rules.specs.Scan.{starts_with}
