@@ -7,7 +7,7 @@ function fail(what) {
     failed++
 }
 
-# The names that a `use` line brings, in `home`: where each stands. Those of the library are not followed.
+# The names that a `use` line brings, in `home`: where each stands. What stands in `std` is the library's.
 function brings(line, file, home,    crate, part, rest, n, i, names, name) {
     sub(/^ *(pub |unfoldable |ghost )*use Rattle\./, "", line)
     crate = line
@@ -22,6 +22,7 @@ function brings(line, file, home,    crate, part, rest, n, i, names, name) {
     sub(/[ .;].*/, "", name)
     if (part == "specs" && name == "declared") return
     if (part == "specs") used[file, ++uses[file]] = crate "." name
+    if (rest ~ /\{[^}]*$/) fail(file " has a list of names that does not end on its line: " line)
     if (rest !~ /\{/) {
         if (rest ~ / as /) { sub(/.* as /, "", rest); sub(/;.*/, "", rest); home[rest] = part " " crate "." name }
         return
@@ -46,6 +47,7 @@ function names_in(text, home, where,    name, n, i, parts, words, k, word) {
         if (sub(/\..*/, "", word)) said[word] = 1
     }
     for (name in home) {
+        # an operator is written with its arguments in the place of each ◌
         k = split(name, parts, "◌")
         for (i = 1; i <= k; i++) {
             if (parts[i] != "" && parts[i] in said) {
