@@ -83,6 +83,28 @@ fn text<'a>(r: &Record, script: &'a [u8], texts: &'a [u8]) -> Result<&'a [u8], S
     source.get(offset as usize..(offset + length) as usize).ok_or_else(|| format!("text {offset} {length} outside its buffer"))
 }
 
+/// Whether made texts, by their offsets and lengths, fill so many bytes without gap or overlap, with the offsets of empty ones at a
+/// text's beginning or at the end.
+fn fill(places: &[(u64, u64)], size: u64) -> Result<(), String> {
+    let mut filled: Vec<(u64, u64)> = places.iter().copied().filter(|p| p.1 > 0).collect();
+    filled.sort_unstable();
+    let mut end = 0;
+    for (offset, length) in filled.iter().copied() {
+        if offset != end {
+            return Err(format!("a gap or an overlap at {offset} of the text buffer"));
+        }
+        end = offset + length;
+    }
+    if end != size {
+        return Err(format!("texts end at {end} of {size}"));
+    }
+    let begins = |offset: u64| offset == end || filled.binary_search_by_key(&offset, |p| p.0).is_ok();
+    match places.iter().find(|(offset, length)| *length == 0 && !begins(*offset)) {
+        None => Ok(()),
+        Some((offset, _)) => Err(format!("an empty text at {offset}")),
+    }
+}
+
 /// The end of a made text, by its offset and length. Order 3 of document 02: it begins where the texts before it end, an empty one too.
 fn end_behind(end: u64, (offset, length): (u64, u64)) -> Result<u64, String> {
     if offset != end {
@@ -95,6 +117,7 @@ fn end_behind(end: u64, (offset, length): (u64, u64)) -> Result<u64, String> {
 pub fn lists(script: &[u8], tokens: &[u8], texts: &[u8], errors: &[u8]) -> Result<Lexed, String> {
     let script = script.strip_prefix("\u{FEFF}".as_bytes()).unwrap_or(script);
     let mut lexed = Lexed { tokens: Vec::new(), errors: Vec::new() };
+    let mut places: Vec<(u64, u64)> = Vec::new();
     let mut end = 0;
     let mut at = 0;
     while at < tokens.len() {
@@ -105,6 +128,7 @@ pub fn lists(script: &[u8], tokens: &[u8], texts: &[u8], errors: &[u8]) -> Resul
         lexed.tokens.push(Token { kind: r.kind, text: text(&r, script, texts)?.to_vec(), span: r.span });
         if let Some(place) = r.text.filter(|_| is_made(r.kind)) {
             end = end_behind(end, place)?;
+            places.push(place);
         }
         at = r.next;
     }
@@ -114,6 +138,7 @@ pub fn lists(script: &[u8], tokens: &[u8], texts: &[u8], errors: &[u8]) -> Resul
     if end != texts.len() as u64 {
         return Err(format!("the texts end at {end} of {} bytes used", texts.len()));
     }
+    fill(&places, texts.len() as u64)?;
     at = 0;
     while at < errors.len() {
         let (mistake, next) = error(errors, at).ok_or_else(|| format!("no whole error at {at}"))?;
@@ -126,6 +151,15 @@ pub fn lists(script: &[u8], tokens: &[u8], texts: &[u8], errors: &[u8]) -> Resul
 #[cfg(test)]
 mod tests {
     use super::*;
+
+    #[test]
+    fn made_texts_fill_their_buffer() {
+        assert_eq!(fill(&[(3, 2), (0, 3), (3, 0), (5, 0), (0, 0)], 5), Ok(()));
+        assert_eq!(fill(&[], 0), Ok(()));
+        for (places, size) in [(vec![(0, 2), (3, 2)], 5), (vec![(0, 3), (2, 2)], 4), (vec![(0, 3)], 4), (vec![(0, 3), (1, 0)], 3)] {
+            assert!(fill(&places, size).is_err(), "{places:?} {size}");
+        }
+    }
 
     /// The records of strings with texts at these places, ended by EOF.
     fn records(places: &[(u32, u32)]) -> Vec<u8> {
