@@ -22,22 +22,23 @@ c_lists() {
     silent
 }
 
-# c_answers PATTERN SCRIPT COMMAND..: the command takes a script of examples/data, or refuses it where the listing has a line like it.
+# c_answers NAME PATTERN SCRIPT COMMAND..: the command takes a script of examples/data, or refuses it, under its name, where the listing has
+# a line like the pattern.
 c_answers() {
-    local refusing=$1 script=$2 expected=0
-    shift 2
+    local name=$1 refusing=$2 script=$3 expected=0
+    shift 3
     if grep -qE "$refusing" "${script%.aura}.listing"; then expected=1; fi
     status "$expected" "$@" < "$script"
-    if [ "$expected" -eq 0 ]; then silent; else said '^[a-z_]+: .+; .+'; fi
+    if [ "$expected" -eq 0 ]; then silent; else said "^$name: .+; .+"; fi
 }
 
 # A script with an error is not printed; its texts are written.
 c_prints() {
-    c_answers '^(E|refused) ' "$@"
+    c_answers office_print '^(E|refused) ' "$@"
 }
 
 c_texts() {
-    c_answers '^refused ' "$@"
+    c_answers texts '^refused ' "$@"
 }
 
 # c_calls PROGRAM: the checks of tests/calls.c hold.
@@ -91,7 +92,7 @@ c_library() {
     local name
     objdump -f "$library" | awk '/file format/ { seen = 1; if ($NF != "elf64-x86-64") other = 1 } END { exit other || !seen }' \
         || fail "$library is not for x86-64 alone"
-    [ "$(nm -P -u "$library" | awk 'NF > 1 { print $1 }' | sort -u)" = memcpy ] || fail "$library takes more than memcpy from the host"
+    [ "$(nm -P -u "$library" | awk 'NF > 1 { print $1 }' | sort -u | paste -sd " ")" = "memcpy memset" ] || fail "$library takes more than memcpy and memset from the host"
     for name in $(nm -P -g --defined-only "$library" | awk 'NF > 1 { print $1 }'); do
         grep -qE "^uint64_t $name\(" include/aura_lexer.h || fail "include/aura_lexer.h does not declare $name"
         checks=$((checks + 1))

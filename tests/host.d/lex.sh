@@ -418,10 +418,14 @@ no_output() {
         return "${PIPESTATUS[0]}"
     }
     head -c 300000 /dev/zero | tr '\0' '\007' > "$out/many.aura"
-    head -c 300000 < <(yes '"a"') > "$out/faultless.aura"
+    head -c 300000 < <(yes val) > "$out/faultless.aura"
+    head -c 300000 < <(yes '"a"') > "$out/strings.aura"
     for command in list check colour "list --names" "colour --html" print texts; do
         script=$out/many.aura
-        case $command in print | texts) script=$out/faultless.aura ;; esac
+        case $command in
+            print) script=$out/faultless.aura ;;
+            texts) script=$out/strings.aura ;;
+        esac
         # shellcheck disable=SC2086
         {
             status 3 closed ./lex $command "$script"
@@ -441,7 +445,7 @@ no_output() {
         "$@" 2> /dev/full
     }
     status 2 unheard ./lex "$out/no such file"
-    rm -f "$out/many.aura" "$out/faultless.aura"
+    rm -f "$out/many.aura" "$out/faultless.aura" "$out/strings.aura"
 }
 
 ./lex /dev/null > "$out/got"
