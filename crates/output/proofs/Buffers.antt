@@ -2,14 +2,17 @@
 use mathlib.Core.Path.{◌≡◌, refl, sym, ◌∙◌, ap, subst}
 use mathlib.Core.Logic.{⊎_elim}
 use mathlib.Core.List.{List, [], ◌∷◌, ◌++◌}
-use Prim.Native.Nat.{ℕ, suc, ◌+◌, ◌-◌, ◌≤◌, ◌<◌}
+use Prim.Native.Nat.{ℕ, suc, ◌+◌, ◌-◌, ◌≤◌, ◌<◌, min}
 use native.Mathlib.Nat.{add-zero}
 use native.Mathlib.Omega.{arith}
-use lib.ListN.{length, set, get_or, take, drop, length-append, length-set}
-use lib.Seq.{sets, sets-eq, length-sets, set_out, slice, slice_empty, slice-cons, length-slice}
-use lib.Seq.{take_at, drop_at, take-add, drop-append-le, length-take-le}
-use Rattle.characters.proofs.Buffers.{sets_append}
-use Rattle.output.specs.Writing.{Put, Fitting}
+use lib.ListN.{length, set, take, drop, length-append, take-append-drop}
+use lib.Seq.{sets, sets-eq, length-sets, set_out, slice}
+use lib.Seq.{take_all, take_at, drop_at, take-add, drop-append-le, length-take-le}
+use borrow.Rule.Slice.PartMut.{put_mid}
+use Rattle.std.proofs.lemmas.Slice.{between_is}
+use Rattle.characters.proofs.Choice.{le_or_lt}
+use Rattle.characters.proofs.Buffers.{sets_append, sets_part}
+use Rattle.output.specs.Writing.{Put}
 
 -- ── Writes one after another ──
 
@@ -65,77 +68,32 @@ slice_split f m t s h k l =
     ∙ ap (λ (r : List ℕ). slice f m s ++ r) (sym (ap (drop m) x ∙ drop_at (take m s) (take (t - m) (drop m s)) m w))
 
 -- The bytes of a part that fit stand for the whole part.
-pub part_fits : (b s : List ℕ) (from to at n : ℕ) → from ≤ to → to ≤ length s → Fitting (length b) at (to - from) n
-    → sets b at (slice from (from + n) s) ≡ sets b at (slice from to s)
-part_fits b s from to at n h k f =
-    let x : n ≤ to - from = f.few in
-    let i : from + n ≤ to = omega arith in
-    let j : from ≤ from + n = omega arith in
-    let w : from + n ≤ length s = omega arith in
-    let y : from + n - from ≡ n = omega arith in
-    let l = length-slice from (from + n) s w ∙ y in
+part_fits : (old vs : List ℕ) (at n : ℕ) → n ≤ length vs → (n < length vs → length old ≤ at + n) → sets old at (take n vs) ≡ sets old at vs
+part_fits old vs at n h g =
+    let e = length-take-le n vs h in
     ⊎_elim
-    (λ e. let z : from + n ≡ to = omega arith in ap (λ (m : ℕ). sets b at (slice from m s)) z)
-    (λ g.
-    sym (
-    ap (sets b at) (slice_split from (from + n) to s j i k)
-    ∙ sets_front b at (slice from (from + n) s) (slice (from + n) to s) (rw l g)
-    )
-    )
-    f.most
+    (λ f. ap (sets old at) (take_all n vs f))
+    (λ f. let i : length old ≤ at + length (take n vs) = rw e (g f) in sym (ap (sets old at) (sym (take-append-drop n vs)) ∙ sets_front old at (take n vs) (drop n vs) i))
+    (le_or_lt (length vs) n)
+
+-- The buffer from a place on, as far as it goes, became the bytes of the part that fit.
+pub part_put : (old vs mid : List ℕ) (at k n : ℕ) → at ≤ length old → n ≡ min (length vs) (length old - at) → k ≡ n → mid ≡ take n vs
+    → Put old (put_mid at k old mid) at vs (at + length vs)
+part_put old vs mid at k n h e f g =
+    let x : n ≤ length vs = omega arith in
+    let y : at + k ≤ length old = omega arith in
+    let l : length mid ≡ k = ap length g ∙ length-take-le n vs x ∙ sym f in
+    record { written = sets_part old mid at k l y ∙ ap (sets old at) g ∙ part_fits old vs at n x (omega arith); place = refl }
+
+-- The part of a text that the code lends is the slice that a rule names.
+pub put_slice : (s : List ℕ) (from to : ℕ) {old new : List ℕ} {at r : ℕ} → Put old new at (take (to - from) (drop from s)) r → Put old new at (slice from to s) r
+put_slice s from to p = rw (← between_is s from to) p
 
 -- The bytes that were written at a buffer's front, read from it.
-pub front_part : (l vs : List ℕ) (n : ℕ) → length vs ≡ n → n ≤ length l → slice 0 n (sets l 0 vs) ≡ vs
+pub front_part : (l vs : List ℕ) (n : ℕ) → length vs ≡ n → n ≤ length l → take n (sets l 0 vs) ≡ vs
 front_part l vs n e h =
     let g : 0 + length vs ≤ length l = omega arith in
     ap (take n) (sets-eq vs l 0 g) ∙ take_at vs (drop (0 + length vs) l) n e
-
--- ── A copy: what is written from here on is what was to be written from the start on ──
-
-pub record Copying (s old b : List ℕ) (from to at i p : ℕ) : Type 0 where
-  pub same : sets b p (slice i to s) ≡ sets old at (slice from to s)
-  pub size : length b ≡ length old
-  pub room : to - from ≤ length old - at
-  pub inside : to ≤ length s
-  pub behind : from ≤ i
-  pub before : i ≤ to
-  pub place : p + from ≡ at + i
-
-pub copy_start : (s b : List ℕ) (from to at : ℕ) → from ≤ to → to ≤ length s → to - from ≤ length b - at
-    → Copying s b b from to at from at
-copy_start s b from to at h k l =
-    record {
-      same = refl;
-      size = refl;
-      room = l;
-      inside = k;
-      behind = omega arith;
-      before = h;
-      place = refl;
-    }
-
-module _ (s old b : List ℕ) (from to at i p : ℕ) (c : Copying s old b from to at i p) where
-  pub copy_room : i < to → p < length b
-  copy_room h = omega (arith, c.size, c.room, c.behind, c.place)
-
-  pub copy_more : i < to → Copying s old (set b p (get_or s i 0)) from to at (i + 1) (p + 1)
-  copy_more h =
-      let e : i + 1 ≡ suc i = omega arith in
-      let f : p + 1 ≡ suc p = omega arith in
-      record {
-        same = rw (e, f) (ap (sets b p) (sym (slice-cons i to s 0 h c.inside)) ∙ c.same);
-        size = length-set b p (get_or s i 0) ∙ c.size;
-        room = c.room;
-        inside = c.inside;
-        behind = omega (arith, c.behind);
-        before = omega arith;
-        place = omega (arith, c.place);
-      }
-
-  pub copy_end : to ≤ i → b ≡ sets old at (slice from to s)
-  copy_end h =
-      let e : i ≡ to = omega (arith, c.before) in
-      sym (ap (sets b p) (ap (λ (n : ℕ). slice n to s) e ∙ slice_empty to s)) ∙ c.same
 
 -- ── Whole values: at once where they fit, else over a small buffer ──
 
@@ -146,20 +104,11 @@ whole_put old new at n r vs e f g = record { written = g; place = omega arith }
 pub none_put : (old : List ℕ) (at n : ℕ) (vs : List ℕ) → length vs ≡ n → length old ≤ at → Put old old at vs (at + n)
 none_put old at n vs e h = record { written = sym (sets_out old at vs h); place = omega arith }
 
--- The value stands at the front of a small buffer, and is copied from there.
+-- The value stands at the front of a small buffer, and that front is put.
 pub cut_put : (old new small b : List ℕ) (at n r : ℕ) (vs : List ℕ) → length vs ≡ n → n ≤ length b → small ≡ sets b 0 vs
-    → Put old new at (slice 0 n small) r → Put old new at vs r
+    → Put old new at (take n small) r → Put old new at vs r
 cut_put old new small b at n r vs e h f p =
-    subst (λ (l : List ℕ). Put old new at l r) (ap (slice 0 n) f ∙ front_part b vs n e h) p
-
--- A part of which the bytes that fit were copied.
-pub part_put : (old new s : List ℕ) (from to at n : ℕ) → from ≤ to → to ≤ length s → Fitting (length old) at (to - from) n
-    → new ≡ sets old at (slice from (from + n) s) → Put old new at (slice from to s) (at + (to - from))
-part_put old new s from to at n h k f e =
-    record {
-      written = e ∙ part_fits old s from to at n h k f;
-      place = ap (λ (m : ℕ). at + m) (sym (length-slice from to s k));
-    }
+    subst (λ (l : List ℕ). Put old new at l r) (ap (take n) f ∙ front_part b vs n e h) p
 
 -- ── A loop of writes: what is still to be written, from here on, gives what the whole gives from the start on ──
 

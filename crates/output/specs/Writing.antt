@@ -1,6 +1,6 @@
 -- Bytes written into a lent buffer from a place on. `sets` passes over what lies outside the buffer, so a write asks for no room:
 -- where the buffer is too small the bytes that fit are written, and the place after the whole is answered all the same.
-use Rattle.std.specs.Prelude.{◌≡◌, List, ◌⊎◌, ℕ, ◌+◌, ◌-◌, ◌≤◌, length}
+use Rattle.std.specs.Prelude.{◌≡◌, List, ℕ, ◌+◌, length}
 use Rattle.std.proofs.lemmas.List.Edits.{sets}
 
 -- The places up to which a write is asked for: far behind the end of every buffer, and so far below 2^64 that a place and the length of
@@ -12,9 +12,3 @@ PLACES = 1152921504606846976
 pub record Put (old new : List ℕ) (at : ℕ) (bytes : List ℕ) (r : ℕ) : Type 0 where
   pub written : new ≡ sets old at bytes
   pub place : r ≡ at + length bytes
-
--- How many of `n` bytes from a place on lie inside a buffer of `size` bytes.
-pub record Fitting (size at n r : ℕ) : Type 0 where
-  pub few : r ≤ n
-  pub inside : r ≤ size - at
-  pub most : (r ≡ n) ⊎ (size ≤ at + r)

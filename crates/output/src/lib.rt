@@ -1,12 +1,11 @@
 // Bytes, characters and records written into lent buffers, with no room asked: what does not fit is passed over and counted.
 #![tactic(auto)]
 
-ghost use Rattle.std.specs.Prelude.{◌≡◌, [], ◌∷◌, ◌+◌, ◌-◌, ◌≤◌, length};
+ghost use Rattle.std.specs.Prelude.{[], ◌∷◌, ◌≤◌, length};
 ghost use Rattle.std.proofs.Math.Seq.{slice};
-ghost use Rattle.std.proofs.lemmas.List.Edits.{sets};
 ghost use Rattle.characters.specs.Utf8.{encode_char};
 ghost use Rattle.records.specs.Records.{token_record, error_record};
-ghost use Rattle.output.specs.Writing.{Put, Fitting, PLACES};
+ghost use Rattle.output.specs.Writing.{Put, PLACES};
 
 use records::{fields, kinds};
 use spans::Span;
@@ -23,33 +22,19 @@ pub fn put_byte(buf: &mut [u8], at: usize, b: u8) -> usize
     at + 1
 }
 
-// How many of `n` bytes from a place on lie inside a buffer of `size` bytes.
-fn fitting(size: usize, at: usize, n: usize) -> usize
-    ensures { Fitting size at n result }
+// The bytes of a part.
+pub fn put_bytes(part: &[u8], buf: &mut [u8], at: usize) -> usize
+    requires part_bound { length part.now ≤ PLACES }
+    requires at_bound { at ≤ PLACES }
+    ensures { Put buf.old buf.new at part.now result }
 {
-    if size <= at {
-        return 0;
+    let end = at + part.len();
+    if buf.len() <= at {
+        return end;
     }
-    if size - at < n {
-        return size - at;
-    }
-    n
-}
-
-// The bytes src[from..to], for which there is room.
-fn copy(src: &[u8], from: usize, to: usize, buf: &mut [u8], at: usize)
-    requires from_le_to { from ≤ to }
-    requires to_in_bounds { to ≤ length src.now }
-    requires from_in_bounds { to - from ≤ length buf.old - at }
-    ensures { buf.new ≡ sets buf.old at (slice from to src.now) }
-{
-    let mut i = from;
-    let mut p = at;
-    while i < to {
-        buf[p] = src[i];
-        i += 1;
-        p += 1;
-    }
+    let n = part.len().min(buf.len() - at);
+    buf[at..at + n].copy_from_slice(&part[..n]);
+    end
 }
 
 // The bytes src[from..to].
@@ -60,12 +45,7 @@ pub fn put_part(src: &[u8], from: usize, to: usize, buf: &mut [u8], at: usize) -
     requires at_bound { at ≤ PLACES }
     ensures { Put buf.old buf.new at (slice from to src.now) result }
 {
-    if buf.len() <= at {
-        return at + (to - from);
-    }
-    let n = fitting(buf.len(), at, to - from);
-    copy(src, from, from + n, buf, at);
-    at + (to - from)
+    put_bytes(&src[from..to], buf, at)
 }
 
 // A character as UTF-8.
@@ -83,7 +63,7 @@ pub fn put_char(c: u32, buf: &mut [u8], at: usize) -> usize
     }
     let mut bytes = [0u8; 4];
     encoding::put_char(&mut bytes, 0, c);
-    put_part(&bytes, 0, n, buf, at)
+    put_bytes(&bytes[..n], buf, at)
 }
 
 // A token's record.
@@ -107,7 +87,7 @@ pub fn put_token(
     }
     let mut bytes = [0u8; fields::WITH_TEXT];
     record_writing::put_token(&mut bytes, 0, kind, span, offset, len);
-    put_part(&bytes, 0, n, buf, at)
+    put_bytes(&bytes[..n], buf, at)
 }
 
 // An error's record.
@@ -124,5 +104,5 @@ pub fn put_error(buf: &mut [u8], at: usize, kind: u8, span: Span, code: u32) -> 
     }
     let mut bytes = [0u8; fields::WITH_CODE];
     record_writing::put_error(&mut bytes, 0, kind, span, code);
-    put_part(&bytes, 0, n, buf, at)
+    put_bytes(&bytes[..n], buf, at)
 }

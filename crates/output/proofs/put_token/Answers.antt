@@ -1,6 +1,8 @@
 -- `output::put_token` meets its contract. Where the whole fits it is written at once, and where none of it fits nothing is;
 use mathlib.Core.Path.{sym, ◌∙◌}
+use Prim.Native.Nat.{ℕ}
 use native.Mathlib.Omega.{arith}
+use lib.ListN.{length-take}
 use Rattle.records.proofs.Bytes.{length_token}
 use Rattle.output.proofs.Lengths.{record_bounds}
 use Rattle.output.proofs.Buffers.{whole_put, none_put, cut_put}
@@ -21,10 +23,16 @@ returns-then-buf-at c = none_put _ _ _ _ (length_token _ _ _ _ ∙ sym c.record_
 pub put_token-requires-2 : goal.put_token-requires-2
 put_token-requires-2 c = omega (arith, record_bounds c.args.kind)
 
-pub put_part-requires : goal.put_part-requires
-put_part-requires c = record { from_le_to = omega (arith, record_bounds c.args.kind); to_in_bounds = omega (arith, record_bounds c.args.kind); to_bound = omega (arith, record_bounds c.args.kind); at_bound = omega (arith, record_bounds c.args.kind) }
+pub slice_bounds-bytes-end : goal.slice_bounds-bytes-end
+slice_bounds-bytes-end c = omega (arith, record_bounds c.args.kind)
+
+pub slice_bounds-put_bytes-end : goal.slice_bounds-put_bytes-end
+slice_bounds-put_bytes-end c = omega (arith, record_bounds c.args.kind, length-take {A = ℕ}, c.put_token-2.auto.buf)
+
+pub put_bytes-requires : goal.put_bytes-requires
+put_bytes-requires c = record { part_bound = omega (arith, record_bounds c.args.kind, length-take {A = ℕ}, c.put_token-2.auto.buf); at_bound = omega arith }
 
 pub returns : goal.returns
 returns c =
     let m = record_bounds c.args.kind in
-    cut_put _ _ _ _ _ _ _ _ (length_token _ _ _ _ ∙ sym c.record_length-n.ensures) (omega (arith, m)) c.put_token-2.ensures.1 c.put_part.ensures
+    cut_put _ _ _ _ _ _ _ _ (length_token _ _ _ _ ∙ sym c.record_length-n.ensures) (omega (arith, m)) c.put_token-2.ensures.1 c.put_bytes.ensures
