@@ -35,7 +35,7 @@ abbrev kinds : Kinds
 kinds = record { made = is_made; script = has_text; fits = known; spelled = spelling }
 
 kinds_suit : Suits kinds
-unfolding made_right whole_right fixed_right part_right keywords_right pair_right column_right mark_right all_rows lookup same_text KEYWORDS MARKS THIRDS marks.spelling known is_made has_text within spelling spellings
+unfolding made_right whole_right fixed_right part_right keywords_right pair_right column_right mark_right all_rows lookup same_text KEYWORDS MARKS THIRDS marks.spelling known is_made has_text within
 kinds_suit =
     record {
       string_made = refl;
@@ -80,7 +80,7 @@ plain [] = true
 plain (w ∷ ws) = same_text (encode w) w && plain ws
 
 all_plain : plain spellings ≡ true
-unfolding plain spellings same_text encode encode_char
+unfolding plain same_text encode encode_char
 all_plain = refl
 
 plain_at : (rows : List (List ℕ)) (k : ℕ) → plain rows ≡ true → encode (get_or rows k []) ≡ get_or rows k []
@@ -90,7 +90,6 @@ plain_at (w ∷ ws) zero e = same_text_lem (encode w) w (and_both (same_text (en
 plain_at (w ∷ ws) (suc k) e = plain_at ws k (and_both (same_text (encode w) w) (plain ws) e).1
 
 spelled : (k : ℕ) → encode (spelling k) ≡ spelling k
-unfolding spelling
 spelled k = plain_at spellings k all_plain
 
 -- ── Tokens ──
@@ -106,7 +105,7 @@ token_fits s t h l =
     }
 
 eof_fits : (s : List ℕ) (p : Position) → TokenSmall (as_bytes (eof p)) → TokenFits s (as_bytes (eof p))
-unfolding has_text is_made within spelling spellings encode
+unfolding has_text is_made within encode
 eof_fits s p l =
     record {
       kind = omega arith;

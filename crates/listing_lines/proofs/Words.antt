@@ -10,13 +10,13 @@ use lib.ListN.{length, get_or, take, drop, replicate}
 use lib.Seq.{take-append_seam}
 use Rattle.characters.proofs.Choice.{and_both}
 use Rattle.records.specs.Kinds.{has_code}
-use Rattle.spellings.specs.Spelling.{ascii, spellings, spelling, padded, spelling_row}
+use Rattle.spellings.specs.Spelling.{ascii, spellings, spelling}
 use Rattle.record_lists.specs.Lists.{error_of}
 use Rattle.records.specs.declared.answers.ErrorRecord.{ErrorRecord}
 use Rattle.listing_fields.specs.Fields.{field, code_field}
 use Rattle.listing_lines.specs.Lines.{ending, head_of, error_line, closed_line}
 
--- ── Spellings: the row of ten bytes holds one whole ──
+-- ── Spellings ──
 
 -- Each word has at most nine bytes: one test over the table.
 unfoldable nines : List (List ℕ) → Bool
@@ -30,28 +30,11 @@ nine_at (w ∷ ws) e zero = leb-true (length w) 9 (and_both (leb (length w) 9) (
 nine_at (w ∷ ws) e (suc k) = nine_at ws (and_both (leb (length w) 9) (nines ws) e).1 k
 
 spellings_nine : nines spellings ≡ true
-unfolding nines spellings
+unfolding nines
 spellings_nine = refl
 
 pub spelling_short : (k : ℕ) → length (spelling k) ≤ 9
-unfolding spelling
 spelling_short k = nine_at spellings spellings_nine k
-
-module _ (k : ℕ) (row : List ℕ) (e : row ≡ spelling_row k) where
-  pub row_first : get_or row 0 0 ≡ length (spelling k)
-  unfolding spelling_row padded
-  row_first = rw e
-
-  pub row_end : get_or row 0 0 + 1 ≤ 10
-  row_end = omega (arith, row_first, spelling_short k)
-
-  pub row_word : take (get_or row 0 0 + 1 - 1) (drop 1 row) ≡ spelling k
-  unfolding spelling_row padded
-  row_word =
-      let word = spelling k in
-      let zeros : List ℕ = replicate (9 - length word) 0 in
-      let n : get_or row 0 0 + 1 - 1 ≡ length word = omega (arith, row_first) in
-      rw (n, e) (take-append_seam word zeros)
 
 -- ── Errors ──
 

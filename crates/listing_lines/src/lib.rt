@@ -40,9 +40,7 @@ pub fn put_fixed(kind: u8, s: Span, buf: &mut [u8], at: usize) -> usize
     requires { Room at (token_line (token kind (spelling kind) s)) }
     ensures { Put buf.old buf.new at (token_line (token kind (spelling kind) s)) result }
 {
-    let row = spelling(kind);
-    let end = row[0] as usize + 1;
-    put_token(kind, s, &row[1..end], buf, at)
+    put_token(kind, s, spelling(kind), buf, at)
 }
 
 // The line of an error.

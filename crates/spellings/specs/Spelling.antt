@@ -1,5 +1,5 @@
 -- The fixed spellings (document 01, "Records"): the literal with which lexer.rs makes each kind that carries no text of its own.
-use Rattle.std.specs.Prelude.{ℕ, ◌-◌, List, [], ◌∷◌, ◌++◌, map, length, get_or, replicate}
+use Rattle.std.specs.Prelude.{ℕ, List, [], ◌∷◌, get_or}
 use Prim.Native.Char.{code}
 use Prim.Native.String.{String, [] as no_letter, ◌∷◌ as ◌letter_then◌}
 
@@ -10,7 +10,7 @@ ascii (c letter_then s) = code c ∷ ascii s
 
 -- Kind by kind, from 0 to 125. There is none for the kinds that carry a text (0 to 5, 39, 121, 123, 125), for those that the
 -- Rust never makes (58 to 61, 64 to 67, 100, 101, 120, 122) and for EOF (124).
-unfoldable pub spellings : List (List ℕ)
+abbrev pub spellings : List (List ℕ)
 spellings =
     [] ∷ [] ∷ [] ∷ [] ∷ [] ∷ []  -- 0 to 5
     ∷ ascii "val" ∷ ascii "var" ∷ ascii "fun" ∷ ascii "struct" ∷ ascii "class" ∷ ascii "interface"  -- 6 to 11
@@ -39,25 +39,5 @@ spellings =
     ∷ [] ∷ []  -- 124 to 125
     ∷ []
 
-unfoldable pub spelling : ℕ → List ℕ
+abbrev pub spelling : ℕ → List ℕ
 spelling kind = get_or spellings kind []
-
--- The bytes of the longest spelling.
-abbrev pub LONGEST : ℕ
-LONGEST = 9
-
--- A spelling in ten bytes: its length, and then its bytes with zeros after them.
-unfoldable pub padded : List ℕ → List ℕ
-padded word = length word ∷ (word ++ replicate (LONGEST - length word) 0)
-
--- What the call answers: also for a kind over 125, which has none.
-unfoldable pub spelling_row : ℕ → List ℕ
-spelling_row kind = padded (spelling kind)
-
--- The rows of all kinds, one after another.
-unfoldable pub joined : List (List ℕ) → List ℕ
-joined [] = []
-joined (row ∷ rows) = row ++ joined rows
-
-unfoldable pub spelling_table : List ℕ
-spelling_table = joined (map padded spellings)

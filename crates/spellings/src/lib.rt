@@ -2,168 +2,116 @@
 #![tactic(auto)]
 
 ghost use Rattle.std.specs.Prelude.{◌≡◌};
-ghost use Rattle.spellings.specs.Spelling.{spelling_row, spelling_table};
+ghost use Rattle.spellings.specs.Spelling.{spelling};
 
-// The bytes of a row: the length of a spelling, and then its bytes with zeros after them.
-pub const ROW: usize = 10;
-
-// A row for each kind, from 0 to 125.
-pub const TABLE: usize = (rules::kinds::ERROR as usize + 1) * ROW;
-
-const SPELLINGS: [u8; TABLE] = *b"\
-    \0\0\0\0\0\0\0\0\0\0\
-    \0\0\0\0\0\0\0\0\0\0\
-    \0\0\0\0\0\0\0\0\0\0\
-    \0\0\0\0\0\0\0\0\0\0\
-    \0\0\0\0\0\0\0\0\0\0\
-    \0\0\0\0\0\0\0\0\0\0\
-    \x03val\0\0\0\0\0\0\
-    \x03var\0\0\0\0\0\0\
-    \x03fun\0\0\0\0\0\0\
-    \x06struct\0\0\0\
-    \x05class\0\0\0\0\
-    \x09interface\
-    \x04enum\0\0\0\0\0\
-    \x05actor\0\0\0\0\
-    \x06sealed\0\0\0\
-    \x06return\0\0\0\
-    \x02if\0\0\0\0\0\0\0\
-    \x04else\0\0\0\0\0\
-    \x04when\0\0\0\0\0\
-    \x03for\0\0\0\0\0\0\
-    \x02in\0\0\0\0\0\0\0\
-    \x05while\0\0\0\0\
-    \x02do\0\0\0\0\0\0\0\
-    \x05break\0\0\0\0\
-    \x08continue\0\
-    \x03try\0\0\0\0\0\0\
-    \x05catch\0\0\0\0\
-    \x07finally\0\0\
-    \x05throw\0\0\0\0\
-    \x02is\0\0\0\0\0\0\0\
-    \x02as\0\0\0\0\0\0\0\
-    \x06public\0\0\0\
-    \x07private\0\0\
-    \x09protected\
-    \x08internal\0\
-    \x04null\0\0\0\0\0\
-    \x04this\0\0\0\0\0\
-    \x05super\0\0\0\0\
-    \x06object\0\0\0\
-    \0\0\0\0\0\0\0\0\0\0\
-    \x09typealias\
-    \x08override\0\
-    \x07suspend\0\0\
-    \x06inline\0\0\0\
-    \x05const\0\0\0\0\
-    \x08comptime\0\
-    \x05defer\0\0\0\0\
-    \x06extern\0\0\0\
-    \x06import\0\0\0\
-    \x07package\0\0\
-    \x04lazy\0\0\0\0\0\
-    \x08lateinit\0\
-    \x04data\0\0\0\0\0\
-    \x05value\0\0\0\0\
-    \x02to\0\0\0\0\0\0\0\
-    \x05await\0\0\0\0\
-    \x05async\0\0\0\0\
-    \x06select\0\0\0\
-    \0\0\0\0\0\0\0\0\0\0\
-    \0\0\0\0\0\0\0\0\0\0\
-    \0\0\0\0\0\0\0\0\0\0\
-    \0\0\0\0\0\0\0\0\0\0\
-    \x03box\0\0\0\0\0\0\
-    \x04weak\0\0\0\0\0\
-    \0\0\0\0\0\0\0\0\0\0\
-    \0\0\0\0\0\0\0\0\0\0\
-    \0\0\0\0\0\0\0\0\0\0\
-    \0\0\0\0\0\0\0\0\0\0\
-    \x06native\0\0\0\
-    \x01+\0\0\0\0\0\0\0\0\
-    \x01-\0\0\0\0\0\0\0\0\
-    \x01*\0\0\0\0\0\0\0\0\
-    \x01/\0\0\0\0\0\0\0\0\
-    \x01%\0\0\0\0\0\0\0\0\
-    \x02++\0\0\0\0\0\0\0\
-    \x02--\0\0\0\0\0\0\0\
-    \x01=\0\0\0\0\0\0\0\0\
-    \x02+=\0\0\0\0\0\0\0\
-    \x02-=\0\0\0\0\0\0\0\
-    \x02*=\0\0\0\0\0\0\0\
-    \x02/=\0\0\0\0\0\0\0\
-    \x02%=\0\0\0\0\0\0\0\
-    \x02==\0\0\0\0\0\0\0\
-    \x02!=\0\0\0\0\0\0\0\
-    \x01<\0\0\0\0\0\0\0\0\
-    \x01>\0\0\0\0\0\0\0\0\
-    \x02<=\0\0\0\0\0\0\0\
-    \x02>=\0\0\0\0\0\0\0\
-    \x02&&\0\0\0\0\0\0\0\
-    \x02||\0\0\0\0\0\0\0\
-    \x01!\0\0\0\0\0\0\0\0\
-    \x01&\0\0\0\0\0\0\0\0\
-    \x01|\0\0\0\0\0\0\0\0\
-    \x01^\0\0\0\0\0\0\0\0\
-    \x02<<\0\0\0\0\0\0\0\
-    \x02>>\0\0\0\0\0\0\0\
-    \x03>>>\0\0\0\0\0\0\
-    \x02!!\0\0\0\0\0\0\0\
-    \x02->\0\0\0\0\0\0\0\
-    \x02=>\0\0\0\0\0\0\0\
-    \0\0\0\0\0\0\0\0\0\0\
-    \0\0\0\0\0\0\0\0\0\0\
-    \x01@\0\0\0\0\0\0\0\0\
-    \x01#\0\0\0\0\0\0\0\0\
-    \x02::\0\0\0\0\0\0\0\
-    \x01(\0\0\0\0\0\0\0\0\
-    \x01)\0\0\0\0\0\0\0\0\
-    \x01{\0\0\0\0\0\0\0\0\
-    \x01}\0\0\0\0\0\0\0\0\
-    \x01[\0\0\0\0\0\0\0\0\
-    \x01]\0\0\0\0\0\0\0\0\
-    \x01,\0\0\0\0\0\0\0\0\
-    \x01;\0\0\0\0\0\0\0\0\
-    \x01:\0\0\0\0\0\0\0\0\
-    \x03::=\0\0\0\0\0\0\
-    \x01.\0\0\0\0\0\0\0\0\
-    \x02..\0\0\0\0\0\0\0\
-    \x03...\0\0\0\0\0\0\
-    \x01?\0\0\0\0\0\0\0\0\
-    \x02??\0\0\0\0\0\0\0\
-    \0\0\0\0\0\0\0\0\0\0\
-    \0\0\0\0\0\0\0\0\0\0\
-    \0\0\0\0\0\0\0\0\0\0\
-    \0\0\0\0\0\0\0\0\0\0\
-    \0\0\0\0\0\0\0\0\0\0\
-    \0\0\0\0\0\0\0\0\0\0";
-
-// The row of a kind, from a table that is lent. A kind over 125 has no spelling.
-pub fn spelling_in(table: &[u8; TABLE], kind: u8) -> [u8; ROW]
-    requires { table.now ≡ spelling_table }
-    ensures { result ≡ spelling_row kind }
+// The spelling of a kind. It is empty where the kind carries a text of its own, where the Rust never makes it, for EOF and over 125.
+pub fn spelling(kind: u8) -> &'static [u8]
+    ensures { result.now ≡ spelling kind }
 {
-    if rules::kinds::ERROR < kind {
-        return [0; ROW];
+    match kind {
+        6 => b"val",
+        7 => b"var",
+        8 => b"fun",
+        9 => b"struct",
+        10 => b"class",
+        11 => b"interface",
+        12 => b"enum",
+        13 => b"actor",
+        14 => b"sealed",
+        15 => b"return",
+        16 => b"if",
+        17 => b"else",
+        18 => b"when",
+        19 => b"for",
+        20 => b"in",
+        21 => b"while",
+        22 => b"do",
+        23 => b"break",
+        24 => b"continue",
+        25 => b"try",
+        26 => b"catch",
+        27 => b"finally",
+        28 => b"throw",
+        29 => b"is",
+        30 => b"as",
+        31 => b"public",
+        32 => b"private",
+        33 => b"protected",
+        34 => b"internal",
+        35 => b"null",
+        36 => b"this",
+        37 => b"super",
+        38 => b"object",
+        40 => b"typealias",
+        41 => b"override",
+        42 => b"suspend",
+        43 => b"inline",
+        44 => b"const",
+        45 => b"comptime",
+        46 => b"defer",
+        47 => b"extern",
+        48 => b"import",
+        49 => b"package",
+        50 => b"lazy",
+        51 => b"lateinit",
+        52 => b"data",
+        53 => b"value",
+        54 => b"to",
+        55 => b"await",
+        56 => b"async",
+        57 => b"select",
+        62 => b"box",
+        63 => b"weak",
+        68 => b"native",
+        69 => b"+",
+        70 => b"-",
+        71 => b"*",
+        72 => b"/",
+        73 => b"%",
+        74 => b"++",
+        75 => b"--",
+        76 => b"=",
+        77 => b"+=",
+        78 => b"-=",
+        79 => b"*=",
+        80 => b"/=",
+        81 => b"%=",
+        82 => b"==",
+        83 => b"!=",
+        84 => b"<",
+        85 => b">",
+        86 => b"<=",
+        87 => b">=",
+        88 => b"&&",
+        89 => b"||",
+        90 => b"!",
+        91 => b"&",
+        92 => b"|",
+        93 => b"^",
+        94 => b"<<",
+        95 => b">>",
+        96 => b">>>",
+        97 => b"!!",
+        98 => b"->",
+        99 => b"=>",
+        102 => b"@",
+        103 => b"#",
+        104 => b"::",
+        105 => b"(",
+        106 => b")",
+        107 => b"{",
+        108 => b"}",
+        109 => b"[",
+        110 => b"]",
+        111 => b",",
+        112 => b";",
+        113 => b":",
+        114 => b"::=",
+        115 => b".",
+        116 => b"..",
+        117 => b"...",
+        118 => b"?",
+        119 => b"??",
+        _ => b"",
     }
-    let at = (kind as usize) * ROW;
-    [
-        table[at],
-        table[at + 1],
-        table[at + 2],
-        table[at + 3],
-        table[at + 4],
-        table[at + 5],
-        table[at + 6],
-        table[at + 7],
-        table[at + 8],
-        table[at + 9],
-    ]
-}
-
-// The spelling of a kind.
-pub fn spelling(kind: u8) -> [u8; ROW]
-    ensures { result ≡ spelling_row kind }
-{
-    spelling_in(&SPELLINGS, kind)
 }

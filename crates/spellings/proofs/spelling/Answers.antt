@@ -1,7 +1,6 @@
-use mathlib.Core.Path.{refl}
-use Rattle.spellings.specs.Spelling.{spellings, padded, joined, spelling_table}
+use mathlib.Core.Path.{sym}
+use Rattle.spellings.proofs.Unnamed.{no_spelling}
 use Rattle.spellings.proofs.spelling.Goals as goal
 
-pub spelling_in-requires : goal.spelling_in-requires
-unfolding spelling_table joined padded spellings
-spelling_in-requires c = refl
+pub returns-in_default : goal.returns-in_default
+returns-in_default c = sym (no_spelling c.args.kind c.in_default.in_default-own.rest)
