@@ -7,7 +7,8 @@ use lib.Dec.{eqb}
 use lib.ListN.{length, get_or, take, drop, length-drop, get_or-append}
 use lib.Seq.{drop-append-le}
 use native.Mathlib.Omega.{arith}
-use borrow.Author.Tests.{eqb-true, eqb-false, ne_eqb}
+use borrow.Author.Tests.{eqb-true, eqb-false, eq-eqb, ne_eqb}
+use Rattle.std.specs.List.{starts_with}
 use Rattle.characters.specs.Choice.{◌is◌, within}
 use Rattle.characters.specs.Utf8.{chars_of, first_bad, is_utf8, is_scalar, width, encode_char, encode}
 use Rattle.byte_order_mark.specs.Mark.{has_mark, mark_length, after_mark}
@@ -177,3 +178,39 @@ pub mark_append_long : (a b : List ℕ) → 3 ≤ length a → has_mark (a ++ b)
 unfolding has_mark
 mark_append_long a b h =
     rw (get_or-append a b 0 0 (omega arith), get_or-append a b 0 1 (omega arith), get_or-append a b 0 2 (omega arith))
+
+-- ── The library's test, whether a text begins with the mark ──
+
+eqb_turn : (a b : ℕ) → eqb a b ≡ eqb b a
+eqb_turn a b = go (eqb a b) refl
+  where
+    go : (x : Bool) → eqb a b ≡ x → eqb a b ≡ eqb b a
+    go true e = e ∙ sym (eq-eqb b a (sym (eqb-true a b e)))
+    go false e = e ∙ sym (ne_eqb b a (λ h. absurd (false≢true (sym e ∙ eq-eqb a b (sym h)))))
+
+-- The library joins its tests from the right, the definition from the left.
+turned : (a b c d e f : Bool) → a ≡ d → b ≡ e → c ≡ f → a && (b && (c && true)) ≡ (d && e) && f
+turned a b c d e f p q r = rw (p, q, r) (same d e f)
+  where
+    same : (d e f : Bool) → d && (e && (f && true)) ≡ (d && e) && f
+    same true true true = refl
+    same true true false = refl
+    same true false f = refl
+    same false e f = refl
+
+pub starts_with_mark : (s : List ℕ) → starts_with eqb s (0xEF ∷ 0xBB ∷ 0xBF ∷ []) ≡ has_mark s
+unfolding has_mark
+starts_with_mark [] = refl
+starts_with_mark (a ∷ []) = short (eqb 0xEF a) (a is 0xEF) (eqb_turn 0xEF a)
+  where
+    short : (x y : Bool) → x ≡ y → x && false ≡ (y && false) && false
+    short true y e = rw (← e) refl
+    short false y e = rw (← e) refl
+starts_with_mark (a ∷ b ∷ []) = short (eqb 0xEF a) (eqb 0xBB b) (a is 0xEF) (b is 0xBB) (eqb_turn 0xEF a) (eqb_turn 0xBB b)
+  where
+    short : (x y z w : Bool) → x ≡ z → y ≡ w → x && (y && false) ≡ (z && w) && false
+    short true true z w p q = rw (← p, ← q) refl
+    short true false z w p q = rw (← p, ← q) refl
+    short false y z w p q = rw (← p) refl
+starts_with_mark (a ∷ b ∷ c ∷ s) =
+    turned (eqb 0xEF a) (eqb 0xBB b) (eqb 0xBF c) (a is 0xEF) (b is 0xBB) (c is 0xBF) (eqb_turn 0xEF a) (eqb_turn 0xBB b) (eqb_turn 0xBF c)

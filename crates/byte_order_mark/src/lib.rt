@@ -5,20 +5,10 @@ ghost use Rattle.std.specs.Prelude.{◌≡◌};
 ghost use Rattle.byte_order_mark.specs.Mark.{has_mark, mark_length, after_mark};
 ghost use Rattle.byte_order_mark.specs.Slices.{bytes_behind};
 
-use characters::utf8::byte_at;
-
 pub fn has_mark(text: &[u8]) -> bool
     ensures { result ≡ has_mark text.now }
 {
-    let a = byte_at(text, 0);
-    let b = byte_at(text, 1);
-    let c = byte_at(text, 2);
-    if a == 0xEF {
-        if b == 0xBB {
-            return c == 0xBF;
-        }
-    }
-    false
+    text.starts_with(b"\xEF\xBB\xBF")
 }
 
 // The number of bytes of the mark that a text begins with.
