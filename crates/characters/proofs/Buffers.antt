@@ -20,9 +20,10 @@ sets_more b c d i n vs ws e p q = q ∙ rw (p, ← e) (sets_append b i vs ws)
 pub part_from : (k : ℕ) (s : List ℕ) → take (length s - k) (drop k s) ≡ drop k s
 part_from k s = take_all (length s - k) (drop k s) (omega (arith, length-drop k s))
 
--- What a part of a slice became, where it kept its length, stands in the slice from the part's start on.
-pub sets_part : (l vs : List ℕ) (i k : ℕ) → length vs ≡ k → i + k ≤ length l → put_mid i k l vs ≡ sets l i vs
-sets_part l vs i k e h =
+-- A part of a slice became as many values `vs`: they stand in the slice from the part's start on.
+pub sets_part : (l mid vs : List ℕ) (i k : ℕ) → mid ≡ vs → length vs ≡ k → i + k ≤ length l → put_mid i k l mid ≡ sets l i vs
+sets_part l mid vs i k p e h =
     let g : i + length vs ≤ length l = omega arith in
-    ap (λ (r : List ℕ). take i l ++ (vs ++ r)) (drop-drop k i l ∙ ap (λ (n : ℕ). drop (i + n) l) (sym e))
+    ap (λ (r : List ℕ). take i l ++ (r ++ drop k (drop i l))) p
+    ∙ ap (λ (r : List ℕ). take i l ++ (vs ++ r)) (drop-drop k i l ∙ ap (λ (n : ℕ). drop (i + n) l) (sym e))
     ∙ sym (append_assoc (take i l) vs (drop (i + length vs) l)) ∙ sym (sets-eq vs l i g)

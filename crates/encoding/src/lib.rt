@@ -42,37 +42,12 @@ pub fn width_of(c: u32) -> usize
     4
 }
 
-// One byte at a place of the buffer.
-fn put1(buf: &mut [u8], at: usize, a: u8)
-    requires { at + 1 ≤ length buf.old }
-    ensures { buf.new ≡ sets buf.old at (a ∷ []) }
+// Bytes at a place of the buffer.
+fn put<const N: usize>(buf: &mut [u8], at: usize, bytes: &[u8; N])
+    requires { at + N ≤ length buf.old }
+    ensures { buf.new ≡ sets buf.old at bytes.now }
 {
-    buf[at] = a;
-}
-
-// Two bytes, one after the other.
-fn put2(buf: &mut [u8], at: usize, a: u8, b: u8)
-    requires { at + 2 ≤ length buf.old }
-    ensures { buf.new ≡ sets buf.old at (a ∷ b ∷ []) }
-{
-    put1(buf, at, a);
-    put1(buf, at + 1, b);
-}
-
-fn put3(buf: &mut [u8], at: usize, a: u8, b: u8, c: u8)
-    requires { at + 3 ≤ length buf.old }
-    ensures { buf.new ≡ sets buf.old at (a ∷ b ∷ c ∷ []) }
-{
-    put1(buf, at, a);
-    put2(buf, at + 1, b, c);
-}
-
-fn put4(buf: &mut [u8], at: usize, a: u8, b: u8, c: u8, d: u8)
-    requires { at + 4 ≤ length buf.old }
-    ensures { buf.new ≡ sets buf.old at (a ∷ b ∷ c ∷ d ∷ []) }
-{
-    put2(buf, at, a, b);
-    put2(buf, at + 2, c, d);
+    buf[at..at + N].copy_from_slice(bytes);
 }
 
 // The character at a place of the buffer, and the place after it.
@@ -85,18 +60,18 @@ pub fn put_char(buf: &mut [u8], at: usize, c: u32) -> usize
     let y = (0x80 + c / 64 % 64) as u8;
     let x = (0x80 + c / 64 / 64 % 64) as u8;
     if c <= 0x7F {
-        put1(buf, at, c as u8);
+        put(buf, at, &[c as u8]);
         return at + 1;
     }
     if c <= 0x7FF {
-        put2(buf, at, (0xC0 + c / 64) as u8, z);
+        put(buf, at, &[(0xC0 + c / 64) as u8, z]);
         return at + 2;
     }
     if c <= 0xFFFF {
-        put3(buf, at, (0xE0 + c / 64 / 64) as u8, y, z);
+        put(buf, at, &[(0xE0 + c / 64 / 64) as u8, y, z]);
         return at + 3;
     }
-    put4(buf, at, (0xF0 + c / 64 / 64 / 64) as u8, x, y, z);
+    put(buf, at, &[(0xF0 + c / 64 / 64 / 64) as u8, x, y, z]);
     at + 4
 }
 

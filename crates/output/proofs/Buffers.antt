@@ -82,8 +82,8 @@ pub part_put : (old vs mid : List ℕ) (at k n : ℕ) → at ≤ length old → 
 part_put old vs mid at k n h e f g =
     let x : n ≤ length vs = omega arith in
     let y : at + k ≤ length old = omega arith in
-    let l : length mid ≡ k = ap length g ∙ length-take-le n vs x ∙ sym f in
-    record { written = sets_part old mid at k l y ∙ ap (sets old at) g ∙ part_fits old vs at n x (omega arith); place = refl }
+    let l : length (take n vs) ≡ k = length-take-le n vs x ∙ sym f in
+    record { written = sets_part old mid (take n vs) at k g l y ∙ part_fits old vs at n x (omega arith); place = refl }
 
 -- The part of a text that the code lends is the slice that a rule names.
 pub put_slice : (s : List ℕ) (from to : ℕ) {old new : List ℕ} {at r : ℕ} → Put old new at (take (to - from) (drop from s)) r → Put old new at (slice from to s) r

@@ -4,38 +4,38 @@ use Rattle.characters.proofs.Widths.{width_one, width_two, width_three, width_fo
 use native.Mathlib.Omega.{arith}
 use Rattle.encoding.proofs.put_char.Goals as goal
 
-pub put1-requires : goal.put1-requires
-put1-requires c =
+pub put-requires : goal.put-requires
+put-requires c =
     let w = width_one _ c.if-c-le127.true in
     omega (arith, rw w at c.requires.c_in_bounds)
 
 pub returns-then-c-le127 : goal.returns-then-c-le127
 returns-then-c-le127 c =
-    rw (encode_one _ c.if-c-le127.true, width_one _ c.if-c-le127.true) (refl, c.put1.ensures)
+    rw (encode_one _ c.if-c-le127.true, width_one _ c.if-c-le127.true) (refl, c.put.ensures)
 
-pub put2-requires : goal.put2-requires
-put2-requires c =
+pub put-requires-then-c-le2047 : goal.put-requires-then-c-le2047
+put-requires-then-c-le2047 c =
     let w = width_two _ c.if-c-le127.false c.if-c-le2047.true in
     omega (arith, rw w at c.requires.c_in_bounds)
 
 pub returns-then-c-le2047 : goal.returns-then-c-le2047
 returns-then-c-le2047 c =
-    rw (encode_two _ c.if-c-le127.false c.if-c-le2047.true, width_two _ c.if-c-le127.false c.if-c-le2047.true) (refl, c.put2.ensures)
+    rw (encode_two _ c.if-c-le127.false c.if-c-le2047.true, width_two _ c.if-c-le127.false c.if-c-le2047.true) (refl, c.put-then-c-le2047.ensures)
 
-pub put3-requires : goal.put3-requires
-put3-requires c =
+pub put-requires-then-c-le65535 : goal.put-requires-then-c-le65535
+put-requires-then-c-le65535 c =
     let w = width_three _ c.if-c-le2047.false c.if-c-le65535.true in
     omega (arith, rw w at c.requires.c_in_bounds)
 
 pub returns-then-c-le65535 : goal.returns-then-c-le65535
 returns-then-c-le65535 c =
-    rw (encode_three _ c.if-c-le2047.false c.if-c-le65535.true, width_three _ c.if-c-le2047.false c.if-c-le65535.true) (refl, c.put3.ensures)
+    rw (encode_three _ c.if-c-le2047.false c.if-c-le65535.true, width_three _ c.if-c-le2047.false c.if-c-le65535.true) (refl, c.put-then-c-le65535.ensures)
 
-pub put4-requires : goal.put4-requires
-put4-requires c =
+pub put-requires-2 : goal.put-requires-2
+put-requires-2 c =
     let w = width_four _ c.if-c-le65535.false in
     omega (arith, rw w at c.requires.c_in_bounds)
 
 pub returns : goal.returns
 returns c =
-    rw (encode_four _ c.if-c-le65535.false, width_four _ c.if-c-le65535.false) (refl, c.put4.ensures)
+    rw (encode_four _ c.if-c-le65535.false, width_four _ c.if-c-le65535.false) (refl, c.put-2.ensures)
