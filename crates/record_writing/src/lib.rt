@@ -10,23 +10,13 @@ ghost use Rattle.records.specs.Records.{le32, pair_bytes, span_bytes, head_bytes
 use records::{fields, kinds};
 use spans::Span;
 
-// One byte.
-fn put8(buf: &mut [u8], at: usize, v: u8)
-    requires { at + 1 ≤ length buf.old }
-    ensures { buf.new ≡ sets buf.old at (v ∷ []) }
-{
-    buf[at] = v;
-}
-
 // A number, 32-bit little-endian.
 fn put32(buf: &mut [u8], at: usize, v: usize)
     requires { at + 4 ≤ length buf.old }
     ensures { buf.new ≡ sets buf.old at (le32 v) }
 {
-    buf[at] = (v % 256) as u8;
-    buf[at + 1] = (v / 256 % 256) as u8;
-    buf[at + 2] = (v / 65536 % 256) as u8;
-    buf[at + 3] = (v / 16777216 % 256) as u8;
+    let bytes = v.to_le_bytes();
+    buf[at..at + 4].copy_from_slice(&bytes[..4]);
 }
 
 // Two numbers, one after the other.
@@ -58,7 +48,7 @@ fn put_head(buf: &mut [u8], at: usize, kind: u8, span: Span)
     requires { at + HEAD ≤ length buf.old }
     ensures { buf.new ≡ sets buf.old at (head_bytes kind span) }
 {
-    put8(buf, at, kind);
+    buf[at] = kind;
     put_span(buf, at + 1, span);
 }
 

@@ -1,18 +1,11 @@
-use lib.ListN.{length-set}
-use Rattle.records.specs.Records.{le32}
-use Rattle.records.proofs.Sets.{sets4}
+use mathlib.Core.Path.{ap, ◌∙◌}
 use native.Mathlib.Omega.{arith}
+use lib.ListN.{take}
+use Rattle.records.specs.Records.{le32}
+use Rattle.characters.proofs.Buffers.{sets_part}
 use Rattle.record_writing.proofs.put32.Goals as goal
-
-pub bounds-buf-at-2 : goal.bounds-buf-at-2
-bounds-buf-at-2 c = simp length-set (omega arith)
-
-pub bounds-buf-at-3 : goal.bounds-buf-at-3
-bounds-buf-at-3 c = simp length-set (omega arith)
-
-pub bounds-buf-at-4 : goal.bounds-buf-at-4
-bounds-buf-at-4 c = simp length-set (omega arith)
 
 pub returns : goal.returns
 unfolding le32
-returns c = sets4 c.args.buf.now c.args.at _ _ _ _
+returns c =
+    sets_part c.args.buf.now _ (le32 c.args.v) c.args.at _ (c.copy_from_slice.ensures.after ∙ ap (take 4) c.to_le_bytes-bytes.ensures) (omega arith) (omega arith)

@@ -7,4 +7,4 @@ use Rattle.record_writing.proofs.put_head.Goals as goal
 pub returns : goal.returns
 unfolding head_bytes
 returns c =
-    sets_more c.args.buf.now _ _ c.args.at 1 (c.args.kind ∷ []) (span_bytes c.args.span) refl c.put8.ensures c.put_span.ensures
+    sets_more c.args.buf.now _ _ c.args.at 1 (c.args.kind ∷ []) (span_bytes c.args.span) refl refl c.put_span.ensures
