@@ -1,6 +1,6 @@
 -- The bridge between the code and the rules. Places of the code are bytes of a text `s`; `chars_at s at` is what the rules see from
 -- a place on.
-use Rattle.std.specs.Prelude.{◌≡◌, Bool, true, ◌&&◌, not, List, [], ◌∷◌, ◌++◌, ℕ, ◌+◌, ◌*◌, ◌≤◌, ◌<◌, leb, length}
+use Rattle.std.specs.Prelude.{◌≡◌, Bool, true, ◌&&◌, not, List, [], ◌∷◌, ◌++◌, ℕ, ◌+◌, ◌*◌, ◌≤◌, ◌<◌, leb, length, Option, Some, None}
 use Rattle.std.proofs.Math.Seq.{slice}
 use Rattle.characters.specs.Choice.{◌is◌}
 use Rattle.characters.specs.Utf8.{chars_at, is_valid}
@@ -10,8 +10,6 @@ use Rattle.rules.specs.Script.{LIMIT}
 use Rattle.rules.specs.Text.{Char, Text}
 use Rattle.rules.specs.Scan.{Part, run}
 use Rattle.rules.specs.Lexer.{advances}
-use Rattle.bridge.specs.declared.Ahead.{Ahead}
-use Rattle.bridge.specs.declared.Ahead.TheVariants as ahead
 
 -- ── Positions ──
 
@@ -40,9 +38,9 @@ pub record Reach (s : List ℕ) (p : Position) (t : Text) (q : Position) : Type 
   pub within : Within s q
 
 -- What stands at a position: a character that leads on; or no character is left.
-abbrev pub NextAt : List ℕ → Position → Ahead → Type 0
-NextAt s p (ahead.Char c q) = Reach s p (c ∷ []) q × (p.offset < q.offset)
-NextAt s p ahead.Nothing = chars_at s p.offset ≡ []
+abbrev pub NextAt : List ℕ → Position → Option (ℕ × Position) → Type 0
+NextAt s p (Some (c, q)) = Reach s p (c ∷ []) q × (p.offset < q.offset)
+NextAt s p None = chars_at s p.offset ≡ []
 
 -- The first character behind the line feed: from it on each moves along its line.
 abbrev pub BEHIND_LF : Char

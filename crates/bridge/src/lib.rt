@@ -15,13 +15,6 @@ const LINE_FEED: u32 = b'\n' as u32;
 // The first character behind the line feed: from it on each moves along its line.
 const BEHIND_LINE_FEED: u8 = b'\n' + 1;
 
-// What stands at a position: a character, and the position after it; or nothing.
-#[derive(Clone, Copy)]
-pub enum Ahead {
-    Char(u32, Position),
-    Nothing,
-}
-
 // The position at a place, for a walk in which lines and columns play no part: it has the first of both.
 pub fn at_place(place: usize) -> Position
     ensures { result ≡ placed place }
@@ -73,17 +66,17 @@ pub fn past(p: Position, c: u32, n: usize) -> Position
     }
 }
 
-// What stands at a position.
-pub fn look(text: &[u8], p: Position) -> Ahead
+// What stands at a position: a character, and the position after it; or nothing.
+pub fn look(text: &[u8], p: Position) -> Option<(u32, Position)>
     requires { Within text.now p }
     ensures { NextAt text.now p result }
 {
     let at = p.offset;
     let d = characters::utf8::decode_valid(text, at);
     match d {
-        Decoded::Code(c, n) => Ahead::Char(c, past(p, c, n)),
-        Decoded::Bad => Ahead::Nothing,
-        Decoded::End => Ahead::Nothing,
+        Decoded::Code(c, n) => Some((c, past(p, c, n))),
+        Decoded::Bad => None,
+        Decoded::End => None,
     }
 }
 

@@ -9,6 +9,7 @@ use lib.Seq.{drop-append-le}
 use native.Mathlib.Omega.{arith}
 use borrow.Author.Tests.{eqb-true, eqb-false, eq-eqb, ne_eqb}
 use Rattle.std.specs.List.{starts_with}
+use Rattle.std.specs.Prelude.{Option, Some, None}
 use Rattle.characters.specs.Choice.{◌is◌, within}
 use Rattle.characters.specs.Utf8.{chars_of, first_bad, is_utf8, is_scalar, width, encode_char, encode}
 use Rattle.byte_order_mark.specs.Mark.{has_mark, mark_length, after_mark}
@@ -18,8 +19,6 @@ use Rattle.characters.proofs.Decoding.{octet_there}
 use Rattle.characters.proofs.Texts.{later, chars_nil, chars_encoded, bad_encoded, utf8_encoded, valid_encode, chars_append, text_ind}
 use Rattle.characters.proofs.Characters.{chars_none}
 use mathlib.Core.Logic.{inl}
-use Rattle.characters.specs.declared.Checked.{Checked}
-use Rattle.characters.specs.declared.Checked.TheVariants.{Valid, BadAt}
 use native.Mathlib.Nat.{zero-add}
 
 -- A text with the mark has its three octets.
@@ -107,9 +106,9 @@ mark_length_after s = omega (arith, length-drop (mark_length s) s, mark_length_i
 pub bad_after_mark : (s : List ℕ) → first_bad s ≡ later (mark_length s) (first_bad (after_mark s))
 bad_after_mark s = go (has_mark s) refl
   where
-    zero_later : (r : Checked) → r ≡ later 0 r
-    zero_later Valid = refl
-    zero_later (BadAt p) = ap BadAt (sym (zero-add p))
+    zero_later : (r : Option ℕ) → r ≡ later 0 r
+    zero_later None = refl
+    zero_later (Some p) = ap Some (sym (zero-add p))
 
     go : (b : Bool) → has_mark s ≡ b → first_bad s ≡ later (mark_length s) (first_bad (after_mark s))
     go true e =

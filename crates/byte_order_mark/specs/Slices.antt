@@ -1,4 +1,4 @@
--- Where a part of a slice lies. A slice points to a place: a block of memory, and an offset in it (`ptr`).
+-- Where a part of a slice lies. A slice points to a place: a block of memory, and an offset in it (`ref_ptr`).
 use Rattle.std.specs.Prelude.{ℕ, ◌+◌}
 
 -- So many bytes behind a place, in the same block.

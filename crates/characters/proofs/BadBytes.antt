@@ -9,11 +9,10 @@ use native.Mathlib.Omega.{arith}
 use borrow.Author.Tests.{le-leb, lt-leb}
 use lib.ListN.{length, take, drop, take-append-drop, drop_of_length-le}
 use lib.Seq.{drop-drop, drop_at, take_at, take-add}
+use Rattle.std.specs.Prelude.{Option, Some, None}
 use Rattle.characters.specs.Utf8.{is_tail, second_ok, first_of, check_past, first_bad, is_valid, is_utf8, is_cut, is_barred, bad_class, RefusedUtf8, RefusedCut, RefusedBarred, is_scalar, width, encode_char}
 use Rattle.characters.specs.BadBytes.{no_tail, is_stray, bad_second, bad_third, bad_fourth, is_other, Classes, Completable, CutShort}
 use Rattle.characters.specs.declared.Decoded.TheVariants.{Code, Bad, End}
-use Rattle.characters.specs.declared.Checked.{Checked}
-use Rattle.characters.specs.declared.Checked.TheVariants.{Valid, BadAt}
 use Rattle.characters.proofs.Choice.{and_both, le_or_lt, within_yes, within_above}
 use Rattle.characters.proofs.Sequences.{seq_one}
 use Rattle.characters.proofs.Widths.{char_length}
@@ -150,21 +149,21 @@ module _ (s : List ℕ) where
 -- ── The text up to the first bad sequence ──
 
 abbrev Front : List ℕ → Type 0
-Front s = (p : ℕ) → first_bad s ≡ BadAt p → (is_utf8 (take p s) ≡ true) × (first_of (drop p s) ≡ Bad)
+Front s = (p : ℕ) → first_bad s ≡ Some p → (is_utf8 (take p s) ≡ true) × (first_of (drop p s) ≡ Bad)
 
-valid_is_not_bad : (p : ℕ) → Valid ≡ BadAt p → ⊥
+valid_is_not_bad : (p : ℕ) → None ≡ Some p → ⊥
 valid_is_not_bad p e = let z : ◌≡◌ {A = ℕ} 0 1 = cc in omega arith
 
-same_place : (p q : ℕ) → BadAt p ≡ BadAt q → p ≡ q
+same_place : (p q : ℕ) → Some p ≡ Some q → p ≡ q
 same_place p q e = cc
 
 front_char : (v : ℕ) (s : List ℕ) → is_scalar v ≡ true → Front s → Front (encode_char v ++ s)
 front_char v s h f p e = go (first_bad s) refl (sym (bad_encoded v s h) ∙ e)
   where
-    go : (r : Checked) → first_bad s ≡ r → later (width v) r ≡ BadAt p
+    go : (r : Option ℕ) → first_bad s ≡ r → later (width v) r ≡ Some p
         → (is_utf8 (take p (encode_char v ++ s)) ≡ true) × (first_of (drop p (encode_char v ++ s)) ≡ Bad)
-    go Valid g k = absurd (valid_is_not_bad p k)
-    go (BadAt q) g k =
+    go None g k = absurd (valid_is_not_bad p k)
+    go (Some q) g k =
         let x = f q g in
         let m : p ≡ width v + q = sym (same_place (width v + q) p k) in
         let w = char_length v in (
@@ -198,7 +197,7 @@ whole_utf8 s v e =
     ∙ utf8_encoded v [] f.scalar
     ∙ nil_utf8
 
-module _ (s : List ℕ) (p : ℕ) (e : first_bad s ≡ BadAt p) where
+module _ (s : List ℕ) (p : ℕ) (e : first_bad s ≡ Some p) where
   -- Whether octets complete the text hangs on its bad sequence alone.
   same_behind : (t : List ℕ) → is_utf8 (s ++ t) ≡ is_utf8 (drop p s ++ t)
   same_behind t =

@@ -7,10 +7,10 @@ use lib.ListN.{length, get_or, drop}
 use lib.Seq.{drop-nil, drop-drop}
 use native.Mathlib.Omega.{arith}
 use native.Mathlib.Nat.{add-zero}
+use Rattle.std.specs.Prelude.{Some, None}
 use Rattle.characters.specs.Utf8.{first_of, decode_at, after, chars_past, chars_at, chars_of, check_after, check_past, first_bad}
 use Rattle.characters.specs.Valid.{bad_from}
 use Rattle.characters.specs.declared.Decoded.TheVariants.{Code, Bad, End}
-use Rattle.characters.specs.declared.Checked.TheVariants.{Valid, BadAt}
 use Rattle.characters.proofs.Sequences.{decode_end}
 use Rattle.characters.proofs.Decoding.{first_code, decode_ascii}
 
@@ -94,12 +94,12 @@ check_code_first (a ∷ t) v (suc m) at e h =
 pub check_first : (s : List ℕ) (v n at : ℕ) → first_of s ≡ Code v n → check_past s 0 at ≡ check_past (drop n s) 0 (at + n)
 check_first s v n at e = check_code_first s v n at e (first_code s v n e).least
 
-pub bad_first : (s : List ℕ) (at : ℕ) → first_of s ≡ Bad → check_past s 0 at ≡ BadAt at
+pub bad_first : (s : List ℕ) (at : ℕ) → first_of s ≡ Bad → check_past s 0 at ≡ Some at
 unfolding check_past check_after first_of
 bad_first [] at e = cc
 bad_first (a ∷ t) at e = rw e
 
-end_first : (s : List ℕ) (at : ℕ) → first_of s ≡ End → check_past s 0 at ≡ Valid
+end_first : (s : List ℕ) (at : ℕ) → first_of s ≡ End → check_past s 0 at ≡ None
 unfolding check_past check_after first_of
 end_first [] at e = refl
 end_first (a ∷ t) at e = rw e
@@ -113,10 +113,10 @@ pub bad_code : (s : List ℕ) (at v n : ℕ) → decode_at s at ≡ Code v n →
 unfolding bad_from decode_at
 bad_code s at v n e = rw (← drop-drop n at s) (check_first (drop at s) v n at e)
 
-pub bad_here : (s : List ℕ) (at : ℕ) → decode_at s at ≡ Bad → bad_from s at ≡ BadAt at
+pub bad_here : (s : List ℕ) (at : ℕ) → decode_at s at ≡ Bad → bad_from s at ≡ Some at
 unfolding bad_from decode_at
 bad_here s at e = bad_first (drop at s) at e
 
-pub bad_none : (s : List ℕ) (at : ℕ) → decode_at s at ≡ End → bad_from s at ≡ Valid
+pub bad_none : (s : List ℕ) (at : ℕ) → decode_at s at ≡ End → bad_from s at ≡ None
 unfolding bad_from decode_at
 bad_none s at e = end_first (drop at s) at e

@@ -11,11 +11,10 @@ use lib.Dec.{leb}
 use borrow.Author.Tests.{leb-true}
 use lib.ListN.{length, take, drop, length-append, take-append-drop}
 use lib.Seq.{slice, drop-nil, drop_at, take_at, take-add, length-take-le}
+use Rattle.std.specs.Prelude.{Option, Some, None}
 use Rattle.characters.specs.Utf8.{first_of, decode_at, chars_at, chars_of, chars_past, check_after, check_past, first_bad, is_valid, is_utf8, is_scalar, Scalars, width, encode_char, encode, bytes}
 use Rattle.characters.specs.declared.Decoded.{Decoded}
 use Rattle.characters.specs.declared.Decoded.TheVariants.{Code, Bad, End}
-use Rattle.characters.specs.declared.Checked.{Checked}
-use Rattle.characters.specs.declared.Checked.TheVariants.{Valid, BadAt}
 use Rattle.characters.proofs.Widths.{char_length, scalar_bounds, scalar_low, width_bounds, width_one, encode_one}
 use Rattle.characters.proofs.Choice.{if_all}
 use Rattle.characters.proofs.Decoding.{first_code, first_end, first_encoded, placed_code}
@@ -102,24 +101,24 @@ chars_encoded v s h =
     chars_first (encode_char v ++ s) v (width v) (first_encoded v s h) ∙ ap (λ (l : List ℕ). v ∷ chars_of l) (char_drop v s)
 
 -- A place so many octets further.
-abbrev pub later : ℕ → Checked → Checked
-later n Valid = Valid
-later n (BadAt p) = BadAt (n + p)
+abbrev pub later : ℕ → Option ℕ → Option ℕ
+later n None = None
+later n (Some p) = Some (n + p)
 
-later_valid : (n : ℕ) (r : Checked) → is_valid (later n r) ≡ is_valid r
+later_valid : (n : ℕ) (r : Option ℕ) → is_valid (later n r) ≡ is_valid r
 unfolding is_valid
-later_valid n Valid = refl
-later_valid n (BadAt p) = refl
+later_valid n None = refl
+later_valid n (Some p) = refl
 
-later_zero : (r : Checked) → later 0 r ≡ r
-later_zero Valid = refl
-later_zero (BadAt p) = ap BadAt (zero-add p)
+later_zero : (r : Option ℕ) → later 0 r ≡ r
+later_zero None = refl
+later_zero (Some p) = ap Some (zero-add p)
 
-later_later : (m n : ℕ) (r : Checked) → later m (later n r) ≡ later (m + n) r
-later_later m n Valid = refl
-later_later m n (BadAt p) = let e : m + (n + p) ≡ m + n + p = omega arith in ap BadAt e
+later_later : (m n : ℕ) (r : Option ℕ) → later m (later n r) ≡ later (m + n) r
+later_later m n None = refl
+later_later m n (Some p) = let e : m + (n + p) ≡ m + n + p = omega arith in ap Some e
 
-after_later : (f g : ℕ → Checked) (at n : ℕ) (r : Decoded) → ((k : ℕ) → f k ≡ later n (g k)) → check_after f (n + at) r ≡ later n (check_after g at r)
+after_later : (f g : ℕ → Option ℕ) (at n : ℕ) (r : Decoded) → ((k : ℕ) → f k ≡ later n (g k)) → check_after f (n + at) r ≡ later n (check_after g at r)
 unfolding check_after
 after_later f g at n (Code v m) h = h (m - 1)
 after_later f g at n Bad h = refl
@@ -149,7 +148,7 @@ pub chars_nil : chars_of [] ≡ []
 unfolding chars_of chars_past
 chars_nil = refl
 
-pub bad_nil : first_bad [] ≡ Valid
+pub bad_nil : first_bad [] ≡ None
 unfolding first_bad check_past
 bad_nil = refl
 
@@ -249,10 +248,10 @@ module _ (a b : List ℕ) (valid : is_utf8 a ≡ true) where
       ∙ bad_encode_append (chars_of a) b (chars_scalar a)
       ∙ ap (λ (n : ℕ). later n (first_bad b)) (sym (valid_length a valid))
 
-  pub valid_append : first_bad b ≡ Valid → first_bad (a ++ b) ≡ Valid
+  pub valid_append : first_bad b ≡ None → first_bad (a ++ b) ≡ None
   valid_append e = bad_append ∙ ap (later (length a)) e
 
-  pub bad_append_at : (p : ℕ) → first_bad b ≡ BadAt p → first_bad (a ++ b) ≡ BadAt (length a + p)
+  pub bad_append_at : (p : ℕ) → first_bad b ≡ Some p → first_bad (a ++ b) ≡ Some (length a + p)
   bad_append_at p e = bad_append ∙ ap (later (length a)) e
 
   pub utf8_append : is_utf8 (a ++ b) ≡ is_utf8 b

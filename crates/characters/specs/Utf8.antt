@@ -1,10 +1,8 @@
 -- UTF-8 by RFC 3629: what a character is. A text is a list of octets, a character is its code point.
-use Rattle.std.specs.Prelude.{◌≡◌, ℕ, zero, suc, ◌+◌, ◌-◌, ◌*◌, ◌/◌, ◌%◌, Bool, true, false, ◌&&◌, ◌||◌, not, List, [], ◌∷◌, ◌++◌, leb, get_or, drop, if◌then◌else◌}
+use Rattle.std.specs.Prelude.{◌≡◌, ℕ, zero, suc, ◌+◌, ◌-◌, ◌*◌, ◌/◌, ◌%◌, Bool, true, false, ◌&&◌, ◌||◌, not, List, [], ◌∷◌, ◌++◌, leb, get_or, drop, if◌then◌else◌, Option, Some, None}
 use Rattle.characters.specs.Choice.{◌is◌, within}
 use Rattle.characters.specs.declared.Decoded.{Decoded}
 use Rattle.characters.specs.declared.Decoded.TheVariants.{Code, Bad, End}
-use Rattle.characters.specs.declared.Checked.{Checked}
-use Rattle.characters.specs.declared.Checked.TheVariants.{Valid, BadAt}
 
 -- ── One character (section 4, the grammar) ──
 
@@ -87,24 +85,24 @@ chars_of s = chars_past s 0
 
 -- ── The first bad sequence ──
 
-unfoldable pub check_after : (ℕ → Checked) → ℕ → Decoded → Checked
+unfoldable pub check_after : (ℕ → Option ℕ) → ℕ → Decoded → Option ℕ
 check_after rest at (Code v n) = rest (n - 1)
-check_after rest at Bad = BadAt at
-check_after rest at End = Valid
+check_after rest at Bad = Some at
+check_after rest at End = None
 
 -- The place of the first bad sequence's first octet. The text's first `k` octets are passed over, and its first octet stands
 -- at the place `at`.
-unfoldable pub check_past : List ℕ → ℕ → ℕ → Checked
-check_past [] k at = Valid
+unfoldable pub check_past : List ℕ → ℕ → ℕ → Option ℕ
+check_past [] k at = None
 check_past (a ∷ s) (suc k) at = check_past s k (at + 1)
 check_past (a ∷ s) zero at = check_after (λ k. check_past s k (at + 1)) at (first_of (a ∷ s))
 
-unfoldable pub first_bad : List ℕ → Checked
+unfoldable pub first_bad : List ℕ → Option ℕ
 first_bad s = check_past s 0 0
 
-unfoldable pub is_valid : Checked → Bool
-is_valid Valid = true
-is_valid (BadAt at) = false
+unfoldable pub is_valid : Option ℕ → Bool
+is_valid None = true
+is_valid (Some at) = false
 
 -- The text is UTF-8.
 unfoldable pub is_utf8 : List ℕ → Bool

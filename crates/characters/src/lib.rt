@@ -11,10 +11,3 @@ pub enum Decoded {
     Bad,
     End,
 }
-
-#[derive(Clone, Copy)]
-pub enum Checked {
-    Valid,
-    // The first byte of the first bad sequence.
-    BadAt(usize),
-}

@@ -17,13 +17,13 @@ pub fn byte_at(text: &[u8], at: usize) -> u8
 pub fn within(lo: u8, hi: u8, b: u8) -> bool
     ensures { result ≡ choice.within lo hi b }
 {
-    if lo <= b { b <= hi } else { false }
+    (lo..=hi).contains(&b)
 }
 
 pub fn is_tail(b: u8) -> bool
     ensures { result ≡ is_tail b }
 {
-    within(0x80, 0xBF, b)
+    (0x80..=0xBF).contains(&b)
 }
 
 // The characters of two, three and four bytes whose tails are such: the bits of the first byte behind its marker, then six of each.

@@ -9,7 +9,7 @@ ghost use Rattle.encoding.specs.Encoding.{encoded_at, buffer_after};
 ghost use Rattle.host_answers.specs.Answers.{truth};
 ghost use Rattle.host_characters.specs.Characters.{check_number, check_figure, written};
 
-use characters::{Checked, space};
+use characters::space;
 use encoding::Encoded;
 
 // 0 where the text is UTF-8, and the figure keeps; else the number of the refusal, whose figure is the first byte of the first bad
@@ -18,7 +18,7 @@ pub fn first_bad(text: &[u8], figure: &mut u64) -> u64
     ensures value { result ≡ check_number text.now (first_bad text.now) }
     ensures figure_after { figure.new ≡ check_figure (first_bad text.now) figure.old }
 {
-    let Checked::BadAt(at) = utf8_check::first_bad(text) else {
+    let Some(at) = utf8_check::first_bad(text) else {
         return 0;
     };
     *figure = at as u64;

@@ -11,7 +11,6 @@ ghost use Rattle.string_runs.specs.Runs.{Room};
 ghost use Rattle.letters.specs.Letters.{escape_letter, LetterAt, ClosedAt, CharacterAt};
 ghost use Rattle.output.specs.Writing.{PLACES};
 
-use bridge::Ahead;
 use escapes::Value;
 use rules::error_kinds::UNTERMINATED_CHARACTER;
 use spans::Position;
@@ -54,11 +53,11 @@ fn letter_at(text: &[u8], p: Position) -> Letter
     requires { Within text.now p }
     ensures { LetterAt text.now p result }
 {
-    let Ahead::Char(c, q) = bridge::look(text, p) else {
+    let Some((c, q)) = bridge::look(text, p) else {
         return Letter::RanOut(p);
     };
     if c == BACKSLASH {
-        let Ahead::Char(e, r) = bridge::look(text, q) else {
+        let Some((e, r)) = bridge::look(text, q) else {
             return Letter::RanOut(q);
         };
         return Letter::Some(escape(text, p, e, r));

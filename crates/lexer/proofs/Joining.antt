@@ -7,10 +7,9 @@ use native.Mathlib.Omega.{arith}
 use borrow.Author.Tests.{leb-true}
 use lib.Dec.{leb}
 use lib.ListN.{length, length-append, length-map}
+use Rattle.std.specs.Prelude.{Option, Some, None}
 use Rattle.characters.specs.Choice.{within}
 use Rattle.characters.specs.Utf8.{first_bad, is_valid, is_utf8}
-use Rattle.characters.specs.declared.Checked.{Checked}
-use Rattle.characters.specs.declared.Checked.TheVariants.{Valid, BadAt}
 use Rattle.characters.proofs.Choice.{and_both}
 use Rattle.byte_order_mark.specs.Mark.{after_mark}
 use Rattle.spans.specs.Span.{single}
@@ -286,9 +285,9 @@ accepted_yes s h = go (first_bad s) refl p.1
     p : (leb (length s) LIMIT ≡ true) × (is_utf8 s ≡ true)
     p = and_both (leb (length s) LIMIT) (is_utf8 s) h
 
-    go : (x : Checked) → first_bad s ≡ x → is_valid x ≡ true → ask_text s ≡ Yes
-    go Valid e q = sym (text_valid s (leb-true (length s) LIMIT p.0) e)
-    go (BadAt at) e q = absurd (false≢true q)
+    go : (x : Option ℕ) → first_bad s ≡ x → is_valid x ≡ true → ask_text s ≡ Yes
+    go None e q = sym (text_valid s (leb-true (length s) LIMIT p.0) e)
+    go (Some at) e q = absurd (false≢true q)
 
 -- A call with buffers that have just the bytes that it takes.
 abbrev call_of : List ℕ → Call

@@ -9,9 +9,8 @@ use native.Mathlib.Omega.{arith}
 use borrow.Author.Tests.{leb-true, le-leb, lt-leb}
 use lib.Dec.{leb}
 use lib.ListN.{length, take, drop, length-append}
+use Rattle.std.specs.Prelude.{Option, Some, None}
 use Rattle.characters.specs.Utf8.{first_bad, bad_class}
-use Rattle.characters.specs.declared.Checked.{Checked}
-use Rattle.characters.specs.declared.Checked.TheVariants.{Valid, BadAt}
 use Rattle.characters.proofs.Choice.{if_all}
 use Rattle.byte_order_mark.proofs.Marks.{mark_length_after}
 use Rattle.rules.specs.Tokens.{Token, TokenizeError}
@@ -108,17 +107,17 @@ module _ (s tokens texts errors tokens' texts' errors' : List ℕ) (h : length s
 
   -- No buffer is too small, so what is refused is refused by question 1 or 2.
   module _ (a : TOKENS ≤ length tokens) (b : TEXTS ≤ length texts) (c : ERRORS ≤ length errors) where
-    asked : (x : Checked) (n f : ℕ) → first_bad s ≡ x → refused n f ≡ tokenize_answer s (length tokens) (length texts) (length errors)
+    asked : (x : Option ℕ) (n f : ℕ) → first_bad s ≡ x → refused n f ≡ tokenize_answer s (length tokens) (length texts) (length errors)
         → refused n f ≡ measure_answer s
     unfolding tokenize_answer measure_answer ◌then◌ most_tokens most_texts most_errors
-    asked Valid n f e k =
+    asked None n f e k =
         let y = text_valid s (omega arith) e in
         let ok = yes_accepted s (sym y) in
         let m = mark_length_after s in
         let z = room_yes (needed s) (length tokens) (length texts) (length errors)
         (omega (arith, few_tokens s ok)) (omega (arith, few_texts s ok)) (omega (arith, few_errors s ok)) in
         absurd (refused_is_not_got (needed s) n f (rw (← y, ← z) at k))
-    asked (BadAt p) n f e k =
+    asked (Some p) n f e k =
         let y = text_bad s (bad_class (drop p s)) p (omega arith) e refl in
         rw (← y) (rw (← y) at k)
 

@@ -10,7 +10,6 @@ ghost use Rattle.walks.specs.Openings.{opens_doc};
 ghost use Rattle.multiline.specs.Tokens.{dollar_brace, slashes, begins_nothing, RawAt, BracesAt, DocLineAt, DocBlockAt, UnexpectedAt};
 ghost use Rattle.output.specs.Writing.{PLACES};
 
-use bridge::Ahead;
 use rules::error_kinds;
 use spans::Position;
 use walks::{error, walk};
@@ -172,7 +171,7 @@ pub fn unexpected(text: &[u8], p: Position, errors: &mut [u8], used: usize) -> R
     requires used_bound { used ≤ PLACES }
     ensures { UnexpectedAt text.now p errors.old errors.new used result }
 {
-    let Ahead::Char(c, q) = bridge::look(text, p) else {
+    let Some((c, q)) = bridge::look(text, p) else {
         return Recorded {
             at: p,
             errors: used,

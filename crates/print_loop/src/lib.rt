@@ -11,7 +11,6 @@ ghost use Rattle.prints.specs.Writing.{due_space};
 ghost use Rattle.print_places.specs.Places as places;
 ghost use Rattle.print_loop.specs.Loops.{FRONT, turn_of, last_turn, Nothing, LastAt, TurnAt, WalkedAt};
 
-use bridge::Ahead;
 use classes::ClassTable;
 use marks::MarkTable;
 use print_steps::Printed;
@@ -77,7 +76,7 @@ fn end_at(text: &[u8], from: usize, at: usize) -> Turn
     requires nothing { Nothing text.now from }
     ensures { LastAt text.now from at result }
 {
-    let Ahead::Char(_, _) = bridge::look(text, bridge::at_place(from)) else {
+    let Some(_) = bridge::look(text, bridge::at_place(from)) else {
         return last(from, at, false);
     };
     last(from, at, true)

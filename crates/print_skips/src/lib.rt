@@ -7,7 +7,6 @@ ghost use Rattle.print_places.specs.Places as places;
 ghost use Rattle.classes.specs.Classes.{class_table};
 ghost use Rattle.print_skips.specs.Gaps.{SomeWhite, BlanksTo, WhiteTo, CommentAt, SkippedAt};
 
-use bridge::Ahead;
 use characters::space;
 use classes::ClassTable;
 use walks::walk;
@@ -39,7 +38,7 @@ fn past_wide(text: &[u8], from: usize) -> usize
     requires { Within text.now (placed from) }
     ensures { SomeWhite text.now from result }
 {
-    let Ahead::Char(c, q) = bridge::look(text, bridge::at_place(from)) else {
+    let Some((c, q)) = bridge::look(text, bridge::at_place(from)) else {
         return from;
     };
     if space::is_white(c) {

@@ -1,5 +1,5 @@
 -- From the contract of printing alone: what a yes says, printing the print again, and a buffer that is never short. Assumes nothing.
-use Rattle.std.specs.Prelude.{if◌then◌else◌}
+use Rattle.std.specs.Prelude.{if◌then◌else◌, Option, Some, None}
 use mathlib.Core.Path.{◌≡◌, refl, sym, ◌∙◌, ap, subst}
 use mathlib.Core.Bool.{Bool, true, false, ◌&&◌, not, false≢true}
 use mathlib.Core.List.{List, [], ◌∷◌, ◌++◌}
@@ -10,8 +10,6 @@ use lib.Dec.{leb}
 use lib.ListN.{length, take, drop}
 use lib.Seq.{take_at, drop_at}
 use Rattle.characters.specs.Utf8.{first_bad, is_valid, is_utf8, is_cut, is_barred, bad_class}
-use Rattle.characters.specs.declared.Checked.{Checked}
-use Rattle.characters.specs.declared.Checked.TheVariants.{Valid, BadAt}
 use Rattle.byte_order_mark.specs.Mark.{after_mark}
 use Rattle.byte_order_mark.proofs.Marks.{mark_length_after}
 use Rattle.rules.specs.Tokens.{TokenizeError}
@@ -65,9 +63,9 @@ accepted_yes : (s : List ℕ) → accepted s ≡ true → ask_text s ≡ Yes
 unfolding ask_text ask_utf8 accepted is_utf8 is_valid
 accepted_yes s e = go (leb (length s) LIMIT) (first_bad s) e
   where
-    go : (b : Bool) (x : Checked) → (b && is_valid x) ≡ true → (if not b then No 1 (length s) else ask_utf8 s x) ≡ Yes
-    go true Valid k = refl
-    go true (BadAt p) k = absurd (false≢true k)
+    go : (b : Bool) (x : Option ℕ) → (b && is_valid x) ≡ true → (if not b then No 1 (length s) else ask_utf8 s x) ≡ Yes
+    go true None k = refl
+    go true (Some p) k = absurd (false≢true k)
     go false x k = absurd (false≢true k)
 
 yes_then : (a : Asked) (later : Answer ℕ) (n : ℕ) → got n ≡ (a then later) → (a ≡ Yes) × (got n ≡ later)
@@ -167,10 +165,10 @@ text_number s n f e = go (leb (length s) LIMIT) (first_bad s) e
     number : (m g : ℕ) → m ≤ 10 → No m g ≡ No n f → n ≤ 10
     number m g h k = let z : m ≡ n = cc in omega arith
 
-    go : (b : Bool) (x : Checked) → (if not b then No 1 (length s) else ask_utf8 s x) ≡ No n f → n ≤ 10
+    go : (b : Bool) (x : Option ℕ) → (if not b then No 1 (length s) else ask_utf8 s x) ≡ No n f → n ≤ 10
     go false x k = number 1 (length s) (omega arith) k
-    go true Valid k = absurd (no_is_not_yes n f (sym k))
-    go true (BadAt p) k = number (bad_class (drop p s)) p (class_low (drop p s)) k
+    go true None k = absurd (no_is_not_yes n f (sym k))
+    go true (Some p) k = number (bad_class (drop p s)) p (class_low (drop p s)) k
 
 -- With room for the print no answer is 12.
 room_answer : (s : List ℕ) (size f : ℕ) → (accepted s ≡ true → script_errors s ≡ [] → length (print_bytes s) ≤ size)

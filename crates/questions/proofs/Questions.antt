@@ -1,5 +1,5 @@
 -- Laws of the questions before the answer. Assumes nothing.
-use Rattle.std.specs.Prelude.{if◌then◌else◌}
+use Rattle.std.specs.Prelude.{if◌then◌else◌, Option, Some, None}
 use mathlib.Core.Path.{◌≡◌, refl, sym, ◌∙◌, ap}
 use mathlib.Core.Bool.{Bool, true, false, ◌&&◌, not}
 use mathlib.Core.List.{List}
@@ -9,8 +9,6 @@ use borrow.Author.Tests.{leb-true, le-leb, lt-leb}
 use lib.Dec.{leb}
 use lib.ListN.{length, drop}
 use Rattle.characters.specs.Utf8.{first_bad, is_valid, is_utf8, bad_class}
-use Rattle.characters.specs.declared.Checked.{Checked}
-use Rattle.characters.specs.declared.Checked.TheVariants.{Valid, BadAt}
 use Rattle.rules.specs.Script.{LIMIT, accepted}
 use Rattle.room.specs.declared.Used.{Used}
 use Rattle.questions.specs.declared.Asked.TheVariants.{Yes, No}
@@ -29,32 +27,32 @@ module _ (s : List ℕ) where
   unfolding ask_text
   text_long h = rw (lt-leb (length s) LIMIT h)
 
-  pub text_valid : length s ≤ LIMIT → first_bad s ≡ Valid → Yes ≡ ask_text s
+  pub text_valid : length s ≤ LIMIT → first_bad s ≡ None → Yes ≡ ask_text s
   unfolding ask_text ask_utf8
   text_valid h e = rw (le-leb (length s) LIMIT h, e)
 
-  pub text_bad : (n p : ℕ) → length s ≤ LIMIT → first_bad s ≡ BadAt p → n ≡ bad_class (drop p s) → No n p ≡ ask_text s
+  pub text_bad : (n p : ℕ) → length s ≤ LIMIT → first_bad s ≡ Some p → n ≡ bad_class (drop p s) → No n p ≡ ask_text s
   unfolding ask_text ask_utf8
   text_bad n p h e k = rw (le-leb (length s) LIMIT h, e, k)
 
   -- A refused script within the limit has a first bad sequence, which the number and the figure tell.
-  pub no_bad : (n p : ℕ) → length s ≤ LIMIT → ask_text s ≡ No n p → (first_bad s ≡ BadAt p) × (n ≡ bad_class (drop p s))
+  pub no_bad : (n p : ℕ) → length s ≤ LIMIT → ask_text s ≡ No n p → (first_bad s ≡ Some p) × (n ≡ bad_class (drop p s))
   unfolding ask_text ask_utf8
   no_bad n p h e = go (first_bad s) refl (sym (rw (le-leb (length s) LIMIT h)) ∙ e)
     where
-      go : (x : Checked) → first_bad s ≡ x → ask_utf8 s x ≡ No n p → (first_bad s ≡ BadAt p) × (n ≡ bad_class (drop p s))
-      go Valid f k = absurd (no_is_not_yes n p (sym k))
-      go (BadAt q) f k = let x = same_no _ q n p k in (f ∙ ap BadAt x.1, sym x.0 ∙ ap (λ (i : ℕ). bad_class (drop i s)) x.1)
+      go : (x : Option ℕ) → first_bad s ≡ x → ask_utf8 s x ≡ No n p → (first_bad s ≡ Some p) × (n ≡ bad_class (drop p s))
+      go None f k = absurd (no_is_not_yes n p (sym k))
+      go (Some q) f k = let x = same_no _ q n p k in (f ∙ ap Some x.1, sym x.0 ∙ ap (λ (i : ℕ). bad_class (drop i s)) x.1)
 
   -- A script that passes is an accepted one.
   pub yes_accepted : ask_text s ≡ Yes → accepted s ≡ true
   unfolding ask_text ask_utf8 accepted is_utf8 is_valid
   yes_accepted e = go (leb (length s) LIMIT) (first_bad s) e
     where
-      go : (b : Bool) (x : Checked) → (if not b then No 1 (length s) else ask_utf8 s x) ≡ Yes → (b && is_valid x) ≡ true
+      go : (b : Bool) (x : Option ℕ) → (if not b then No 1 (length s) else ask_utf8 s x) ≡ Yes → (b && is_valid x) ≡ true
       go false x k = absurd (no_is_not_yes _ _ k)
-      go true Valid k = refl
-      go true (BadAt p) k = absurd (no_is_not_yes _ _ k)
+      go true None k = refl
+      go true (Some p) k = absurd (no_is_not_yes _ _ k)
 
 -- ── Questions 3, 4 and 5 ──
 

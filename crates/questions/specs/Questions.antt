@@ -1,8 +1,6 @@
 -- Questions 1 to 5 (document 01, "Questions before the answer").
-use Rattle.std.specs.Prelude.{not, List, ℕ, leb, length, drop, if◌then◌else◌}
+use Rattle.std.specs.Prelude.{not, List, ℕ, leb, length, drop, if◌then◌else◌, Option, Some, None}
 use Rattle.characters.specs.Utf8.{first_bad, bad_class}
-use Rattle.characters.specs.declared.Checked.{Checked}
-use Rattle.characters.specs.declared.Checked.TheVariants.{Valid, BadAt}
 use Rattle.rules.specs.Script.{LIMIT}
 use Rattle.room.specs.declared.Used.{Used}
 use Rattle.questions.specs.declared.Asked.{Asked}
@@ -22,9 +20,9 @@ abbrev pub RefusedErrors : ℕ
 RefusedErrors = 5
 
 -- Question 2, by the first bad sequence. The figure counts the mark.
-unfoldable pub ask_utf8 : List ℕ → Checked → Asked
-ask_utf8 s Valid = Yes
-ask_utf8 s (BadAt p) = No (bad_class (drop p s)) p
+unfoldable pub ask_utf8 : List ℕ → Option ℕ → Asked
+ask_utf8 s None = Yes
+ask_utf8 s (Some p) = No (bad_class (drop p s)) p
 
 -- Questions 1 and 2.
 unfoldable pub ask_text : List ℕ → Asked

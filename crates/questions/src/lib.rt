@@ -4,7 +4,6 @@
 ghost use Rattle.std.specs.Prelude.{◌≡◌};
 ghost use Rattle.questions.specs.Questions.{ask_text, ask_room};
 
-use characters::Checked;
 use room::Used;
 use rules::LIMIT;
 
@@ -31,7 +30,7 @@ pub fn ask_text(script: &[u8]) -> Asked
     if LIMIT < script.len() {
         return Asked::No(REFUSED_LENGTH, script.len() as u64);
     }
-    let Checked::BadAt(at) = utf8_check::first_bad(script) else {
+    let Some(at) = utf8_check::first_bad(script) else {
         return Asked::Yes;
     };
     Asked::No(utf8_classes::bad_class(script, at), at as u64)

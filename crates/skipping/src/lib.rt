@@ -11,7 +11,6 @@ ghost use Rattle.walks.specs.Openings.{opens_line, opens_block};
 ghost use Rattle.skipping.specs.Skips.{SomeWhite, WhiteAt, CommentAt, SkippedAt};
 ghost use Rattle.output.specs.Writing.{PLACES};
 
-use bridge::Ahead;
 use characters::{space, utf8};
 use rules::error_kinds;
 use spans::Position;
@@ -78,7 +77,7 @@ fn skip_wide(text: &[u8], p: Position) -> Position
         if utf8::byte_at(text, at.offset) < 0x80 {
             return at;
         }
-        let Ahead::Char(c, q) = bridge::look(text, at) else {
+        let Some((c, q)) = bridge::look(text, at) else {
             return at;
         };
         if !space::is_white(c) {

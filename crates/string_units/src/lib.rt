@@ -9,7 +9,6 @@ ghost use Rattle.cursor.specs.Strings.{escape_unit};
 ghost use Rattle.bridge.specs.Bridge.{Within, Reach};
 ghost use Rattle.string_units.specs.Units.{backslash, backslash_u, unicode_unit, UnitAt, FoundAt, plain_found};
 
-use bridge::Ahead;
 use characters::utf8;
 use escapes::Value;
 use spans::Position;
@@ -108,7 +107,7 @@ fn escape(text: &[u8], p: Position, q: Position) -> Unit
     requires reach { Reach text.now p backslash q }
     ensures { UnitAt text.now p (escape_unit (chars_at text.now q.offset)) result }
 {
-    let Ahead::Char(e, r) = bridge::look(text, q) else {
+    let Some((e, r)) = bridge::look(text, q) else {
         return Unit {
             next: q,
             made: Made::Nothing,
@@ -148,7 +147,7 @@ pub fn unit_at(text: &[u8], p: Position) -> Found
     requires { Within text.now p }
     ensures { FoundAt text.now p result }
 {
-    let Ahead::Char(c, q) = bridge::look(text, p) else {
+    let Some((c, q)) = bridge::look(text, p) else {
         return Found::None;
     };
     if c == LINE_FEED {

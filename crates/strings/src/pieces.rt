@@ -5,7 +5,6 @@ ghost use Rattle.string_runs.specs.Runs.{Room};
 ghost use Rattle.strings.specs.Pieces.{literal_piece, PieceAt};
 
 use super::Piece;
-use bridge::Ahead;
 use cursor::Cursor;
 use interpolations::Given;
 use records::answers::TokenRecord;
@@ -62,7 +61,7 @@ pub fn piece(
 {
     let r = string_runs::run_units(text, p, texts, used_texts, errors, used_errors);
     let stop = r.at;
-    let Ahead::Char(c, q) = bridge::look(text, stop) else {
+    let Some((c, q)) = bridge::look(text, stop) else {
         let noted = error::put_unclosed(errors, r.errors, false, UNTERMINATED_STRING, stop, stop);
         let outside = Cursor::Outside(stop);
         return literal(start, stop, used_texts, r, outside, true, noted);

@@ -1,8 +1,8 @@
 -- What the parts of the check of a text answer.
-use Rattle.std.specs.Prelude.{◌≡◌, Bool, ◌&&◌, List, ℕ, zero, suc, ◌+◌, ◌≤◌, ltb, length, get_or}
+use Rattle.std.specs.Prelude.{◌≡◌, Bool, ◌&&◌, List, ℕ, zero, suc, ◌+◌, ◌≤◌, ltb, length, get_or, Option}
 use Rattle.characters.specs.Valid.{bad_from}
-use Rattle.utf8_check.specs.declared.Progress.{Progress}
-use Rattle.utf8_check.specs.declared.Progress.TheVariants.{Reached, Ended}
+use Rattle.std.specs.declared.ops.ControlFlow.{ControlFlow}
+use Rattle.std.specs.declared.ops.ControlFlow.TheVariants.{Continue, Break}
 
 -- How many octets the check looks at together.
 abbrev pub BLOCK : ℕ
@@ -20,6 +20,6 @@ pub record Clean (s : List ℕ) (from to : ℕ) : Type 0 where
   pub same : bad_from s from ≡ bad_from s to
 
 -- What the check from `from` on comes to: it reached `stop` or a place behind it, or it ended with its answer.
-abbrev pub Progressed : List ℕ → ℕ → ℕ → Progress → Type 0
-Progressed s from stop (Reached to) = Clean s from to × (stop ≤ to)
-Progressed s from stop (Ended r) = bad_from s from ≡ r
+abbrev pub Progressed : List ℕ → ℕ → ℕ → ControlFlow (Option ℕ) ℕ → Type 0
+Progressed s from stop (Continue to) = Clean s from to × (stop ≤ to)
+Progressed s from stop (Break r) = bad_from s from ≡ r

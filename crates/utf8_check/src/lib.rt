@@ -6,16 +6,8 @@ ghost use Rattle.characters.specs.Utf8.{first_bad};
 ghost use Rattle.characters.specs.Valid.{bad_from};
 ghost use Rattle.utf8_check.specs.Check.{BLOCK, ascii, Clean, Progressed};
 
-use characters::{Checked, Decoded};
-
-// How far a part of the check came.
-#[derive(Clone, Copy)]
-enum Progress {
-    // No bad sequence up to this place.
-    Reached(usize),
-    // The check's answer.
-    Ended(Checked),
-}
+use characters::Decoded;
+use std::ops::ControlFlow;
 
 // The bytes of a block.
 const BLOCK: usize = 16;
@@ -54,8 +46,9 @@ fn past_ascii(text: &[u8], from: usize) -> usize
     at
 }
 
-// The check of the sequences from a place on, one by one, until `stop` is reached. Behind `stop` there are three bytes.
-fn past_good(text: &[u8], from: usize, stop: usize) -> Progress
+// The check of the sequences from a place on, one by one: it goes on from the place behind `stop` that it reaches, or breaks off with
+// its answer. Behind `stop` there are three bytes.
+fn past_good(text: &[u8], from: usize, stop: usize) -> ControlFlow<Option<usize>, usize>
     requires from_in_bounds { from ≤ length text.now }
     requires stop_in_bounds { stop + 3 ≤ length text.now }
     ensures { Progressed text.now from stop result }
@@ -68,18 +61,18 @@ fn past_good(text: &[u8], from: usize, stop: usize) -> Progress
                 at += n;
             }
             Decoded::Bad => {
-                return Progress::Ended(Checked::BadAt(at));
+                return ControlFlow::Break(Some(at));
             }
             Decoded::End => {
-                return Progress::Ended(Checked::Valid);
+                return ControlFlow::Break(None);
             }
         }
     }
-    Progress::Reached(at)
+    ControlFlow::Continue(at)
 }
 
 // The check of the sequences from a place on, one by one, up to the end.
-fn past_rest(text: &[u8], from: usize) -> Checked
+fn past_rest(text: &[u8], from: usize) -> Option<usize>
     requires { from ≤ length text.now }
     ensures { bad_from text.now from ≡ result }
 {
@@ -91,10 +84,10 @@ fn past_rest(text: &[u8], from: usize) -> Checked
                 at += n;
             }
             Decoded::Bad => {
-                return Checked::BadAt(at);
+                return Some(at);
             }
             Decoded::End => {
-                return Checked::Valid;
+                return None;
             }
         }
     }
@@ -105,7 +98,7 @@ const ENOUGH: usize = BLOCK + 3;
 
 // The first bad sequence of a text, or none. Blocks of ASCII bytes are passed whole. Where a block is not such, the sequences of
 // about one block are checked before blocks are tried again.
-pub fn first_bad(text: &[u8]) -> Checked
+pub fn first_bad(text: &[u8]) -> Option<usize>
     ensures { result ≡ first_bad text.now }
 {
     let mut at: usize = 0;
@@ -116,10 +109,10 @@ pub fn first_bad(text: &[u8]) -> Checked
         }
         let p = past_good(text, from, from + BLOCK);
         match p {
-            Progress::Reached(to) => {
+            ControlFlow::Continue(to) => {
                 at = to;
             }
-            Progress::Ended(answer) => {
+            ControlFlow::Break(answer) => {
                 return answer;
             }
         }

@@ -4,7 +4,6 @@ ghost use Rattle.bridge.specs.Bridge.{Within, Fits, Letter};
 ghost use Rattle.walks.specs.Walks.{UpToAt, star_slash, quotes, behind_mark};
 
 use super::{Closing, ahead};
-use bridge::Ahead;
 use spans::Position;
 
 // Up to the next `*/`, or the end. Plain characters are passed together, here and in the walks below.
@@ -18,7 +17,7 @@ pub fn to_pair(text: &[u8], p: Position) -> Closing
         if ahead::pair_at(text, at.offset, b'*', b'/') {
             return Closing { at, found: true };
         }
-        let Ahead::Char(_, next) = bridge::look(text, at) else {
+        let Some((_, next)) = bridge::look(text, at) else {
             return Closing { at, found: false };
         };
         at = next;
@@ -36,7 +35,7 @@ pub fn to_quotes(text: &[u8], p: Position) -> Closing
         if ahead::three_at(text, at.offset, b'"', b'"', b'"') {
             return Closing { at, found: true };
         }
-        let Ahead::Char(_, next) = bridge::look(text, at) else {
+        let Some((_, next)) = bridge::look(text, at) else {
             return Closing { at, found: false };
         };
         at = next;
@@ -55,7 +54,7 @@ pub fn to_byte(text: &[u8], p: Position, stop: u8) -> Closing
         if bridge::is_at(text, at.offset, stop) {
             return Closing { at, found: true };
         }
-        let Ahead::Char(_, next) = bridge::look(text, at) else {
+        let Some((_, next)) = bridge::look(text, at) else {
             return Closing { at, found: false };
         };
         at = next;

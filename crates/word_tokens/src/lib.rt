@@ -11,7 +11,6 @@ ghost use Rattle.steps.specs.Step.{AfterComment, Roomy};
 ghost use Rattle.steps.specs.Tokens.{FoundAt, FoundBare, GivenAt};
 ghost use Rattle.word_tokens.specs.Other.{Other};
 
-use bridge::Ahead;
 use classes::ClassTable;
 use keyword_tables::{KeywordTable, SlotTable};
 use marks::MarkTable;
@@ -62,7 +61,7 @@ pub fn other_step(text: &[u8], p: Position, texts: &mut [u8], errors: &mut [u8],
     requires roomy { Roomy AfterComment fill.texts fill.errors }
     ensures { GivenAt text.now p texts.old fill.texts errors.old fill.errors result texts.new errors.new }
 {
-    let Ahead::Char(_, _) = bridge::look(text, p) else {
+    let Some(_) = bridge::look(text, p) else {
         return made::end_step(p, fill.texts, fill.errors, false);
     };
     unexpected_token(text, p, texts, errors, fill)

@@ -11,27 +11,27 @@ returns-in_default c =
 
 pub look-requires-then-c-eq-BACKSLASH : goal.look-requires-then-c-eq-BACKSLASH
 look-requires-then-c-eq-BACKSLASH c =
-    let w = subst (NextAt c.args.text.now c.args.p) c.in-Char.is c.look.ensures in
+    let w = subst (NextAt c.args.text.now c.args.p) c.in-Some.is c.look.ensures in
     w.0.within
 
 pub returns-in_default-look : goal.returns-in_default-look
 returns-in_default-look c =
-    let w = subst (NextAt c.args.text.now c.args.p) c.in-Char.is c.look.ensures in
-    ends_behind c.args.text.now c.args.p c.in-Char.q c.in-Char.c w.0 c.if-c-eq-BACKSLASH.true (subst (NextAt c.args.text.now c.in-Char.q) c.in_default-look.is c.look-then-c-eq-BACKSLASH.ensures)
+    let w = subst (NextAt c.args.text.now c.args.p) c.in-Some.is c.look.ensures in
+    ends_behind c.args.text.now c.args.p c.in-Some.q c.in-Some.c w.0 c.if-c-eq-BACKSLASH.true (subst (NextAt c.args.text.now c.in-Some.q) c.in_default-look.is c.look-then-c-eq-BACKSLASH.ensures)
 
 pub escape-requires : goal.escape-requires
 escape-requires c =
-    let w = subst (NextAt c.args.text.now c.args.p) c.in-Char.is c.look.ensures in
-    let v = subst (NextAt c.args.text.now c.in-Char.q) c.in-Char-look.is c.look-then-c-eq-BACKSLASH.ensures in
-    record { within = c.requires; e_bound = char_bound c.args.text.now c.in-Char.q.offset c.in-Char-look.e (chars_at c.args.text.now c.in-Char-look.r.offset) v.0.chars; reach = back_two c.args.text.now c.args.p c.in-Char.q c.in-Char.c w.0 c.in-Char-look.e c.in-Char-look.r v.0 c.if-c-eq-BACKSLASH.true }
+    let w = subst (NextAt c.args.text.now c.args.p) c.in-Some.is c.look.ensures in
+    let v = subst (NextAt c.args.text.now c.in-Some.q) c.in-Some-look.is c.look-then-c-eq-BACKSLASH.ensures in
+    record { within = c.requires; e_bound = char_bound c.args.text.now c.in-Some.q.offset c.in-Some-look.e (chars_at c.args.text.now c.in-Some-look.r.offset) v.0.chars; reach = back_two c.args.text.now c.args.p c.in-Some.q c.in-Some.c w.0 c.in-Some-look.e c.in-Some-look.r v.0 c.if-c-eq-BACKSLASH.true }
 
 pub returns-then-c-eq-BACKSLASH : goal.returns-then-c-eq-BACKSLASH
 returns-then-c-eq-BACKSLASH c =
-    let w = subst (NextAt c.args.text.now c.args.p) c.in-Char.is c.look.ensures in
-    let v = subst (NextAt c.args.text.now c.in-Char.q) c.in-Char-look.is c.look-then-c-eq-BACKSLASH.ensures in
-    letter_behind c.args.text.now c.args.p c.in-Char.q c.in-Char.c w.0 c.in-Char-look.e c.in-Char-look.r v.0 c.if-c-eq-BACKSLASH.true c.escape.result c.escape.ensures
+    let w = subst (NextAt c.args.text.now c.args.p) c.in-Some.is c.look.ensures in
+    let v = subst (NextAt c.args.text.now c.in-Some.q) c.in-Some-look.is c.look-then-c-eq-BACKSLASH.ensures in
+    letter_behind c.args.text.now c.args.p c.in-Some.q c.in-Some.c w.0 c.in-Some-look.e c.in-Some-look.r v.0 c.if-c-eq-BACKSLASH.true c.escape.result c.escape.ensures
 
 pub returns : goal.returns
 returns c =
-    let w = subst (NextAt c.args.text.now c.args.p) c.in-Char.is c.look.ensures in
-    letter_plain c.args.text.now c.args.p c.in-Char.q c.in-Char.c w.0 c.requires w.1 c.if-c-eq-BACKSLASH.false
+    let w = subst (NextAt c.args.text.now c.args.p) c.in-Some.is c.look.ensures in
+    letter_plain c.args.text.now c.args.p c.in-Some.q c.in-Some.c w.0 c.requires w.1 c.if-c-eq-BACKSLASH.false

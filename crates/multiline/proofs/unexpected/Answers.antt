@@ -10,5 +10,5 @@ returns-in_default c =
 
 pub returns : goal.returns
 returns c =
-    let x = subst (NextAt c.args.text.now c.args.p) c.in-Char.is c.look.ensures in
-    unexpected_at c.args.text.now c.args.p c.requires.within c.requires.offset_value c.in-Char.c c.in-Char.q x.0 _ _ _ _ _ c.between-span.ensures c.put_error-end.ensures
+    let x = subst (NextAt c.args.text.now c.args.p) c.in-Some.is c.look.ensures in
+    unexpected_at c.args.text.now c.args.p c.requires.within c.requires.offset_value c.in-Some.c c.in-Some.q x.0 _ _ _ _ _ c.between-span.ensures c.put_error-end.ensures

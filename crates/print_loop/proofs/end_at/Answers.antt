@@ -19,5 +19,5 @@ returns-in_default c =
 pub returns : goal.returns
 returns c =
     let n = subst (λ (q : Position). NextAt c.args.text.now q c.look.result) c.at_place.ensures c.look.ensures in
-    let x = subst (NextAt c.args.text.now (placed c.args.from)) c.in-Char.is n in
+    let x = subst (NextAt c.args.text.now (placed c.args.from)) c.in-Some.is n in
     last_at c.args.text.now c.args.from c.args.at true _ c.last-2.ensures (unexpected_wrong c.args.text.now c.args.from c.requires.nothing _ _ x.0.chars)

@@ -20,18 +20,18 @@ returns-in_default c =
 pub returns-then-is_white : goal.returns-then-is_white
 returns-then-is_white c =
     let n = subst (λ (q : Position). NextAt c.args.text.now q c.look.result) c.at_place.ensures c.look.ensures in
-    let x = subst (NextAt c.args.text.now (placed c.args.from)) c.in-Char.is n in
+    let x = subst (NextAt c.args.text.now (placed c.args.from)) c.in-Some.is n in
     let h = x.1 in
     record {
-      passed = white_passed c.args.text.now c.args.from c.in-Char.c c.in-Char.q x.0 h (sym c.is_white.ensures ∙ c.if-is_white.true);
+      passed = white_passed c.args.text.now c.args.from c.in-Some.c c.in-Some.q x.0 h (sym c.is_white.ensures ∙ c.if-is_white.true);
       stops = λ e. absurd (omega arith);
     }
 
 pub returns : goal.returns
 returns c =
     let n = subst (λ (q : Position). NextAt c.args.text.now q c.look.result) c.at_place.ensures c.look.ensures in
-    let x = subst (NextAt c.args.text.now (placed c.args.from)) c.in-Char.is n in
+    let x = subst (NextAt c.args.text.now (placed c.args.from)) c.in-Some.is n in
     record {
       passed = passed_none c.args.text.now c.args.from c.requires;
-      stops = λ _. stops_at c.args.text.now (placed c.args.from) c.in-Char.q c.in-Char.c x.0 (sym c.is_white.ensures ∙ c.if-is_white.false);
+      stops = λ _. stops_at c.args.text.now (placed c.args.from) c.in-Some.q c.in-Some.c x.0 (sym c.is_white.ensures ∙ c.if-is_white.false);
     }

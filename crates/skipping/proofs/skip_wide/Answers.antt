@@ -29,17 +29,17 @@ returns-in_default c =
 
 pub returns-then-not-is_white : goal.returns-then-not-is_white
 returns-then-not-is_white c =
-    let w = subst (NextAt c.args.text.now c.loop-at.at) c.in-Char.is c.look.ensures in
-    let n = stops_at c.args.text.now c.loop-at.at c.in-Char.q c.in-Char.c w.0 (sym c.is_white.ensures ∙ c.if-not-is_white.true) in
+    let w = subst (NextAt c.args.text.now c.loop-at.at) c.in-Some.is c.look.ensures in
+    let n = stops_at c.args.text.now c.loop-at.at c.in-Some.q c.in-Some.c w.0 (sym c.is_white.ensures ∙ c.if-not-is_white.true) in
     gap_some c.args.text.now _ _ c.loop-at.invariant (λ e. ap (λ (i : ℕ). next is_white (chars_at c.args.text.now i)) (sym e) ∙ n)
 
 pub loop-at-smaller : goal.loop-at-smaller
 loop-at-smaller c =
-    let w = subst (NextAt c.args.text.now c.loop-at.at) c.in-Char.is c.look.ensures in
+    let w = subst (NextAt c.args.text.now c.loop-at.at) c.in-Some.is c.look.ensures in
     omega (arith, w.1, w.0.within.inside)
 
 pub loop-at-preserved : goal.loop-at-preserved
 loop-at-preserved c =
-    let w = subst (NextAt c.args.text.now c.loop-at.at) c.in-Char.is c.look.ensures in
+    let w = subst (NextAt c.args.text.now c.loop-at.at) c.in-Some.is c.look.ensures in
     let t = sym c.is_white.ensures ∙ c.if-not-is_white.false in
-    gap_join c.args.text.now _ c.loop-at.at _ c.loop-at.invariant (wide_gap c.args.text.now c.loop-at.at c.in-Char.q c.in-Char.c w.0 (omega (arith, c.byte_at.ensures)) t w.1)
+    gap_join c.args.text.now _ c.loop-at.at _ c.loop-at.invariant (wide_gap c.args.text.now c.loop-at.at c.in-Some.q c.in-Some.c w.0 (omega (arith, c.byte_at.ensures)) t w.1)

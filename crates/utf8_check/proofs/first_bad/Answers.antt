@@ -15,15 +15,15 @@ returns-then-text-from-lt-ENOUGH c =
 
 pub loop-at-smaller : goal.loop-at-smaller
 loop-at-smaller c =
-    let q = subst (Progressed _ _ _) c.in-Reached.is c.past_good-p.ensures in
+    let q = subst (Progressed _ _ _) c.in-Continue.is c.past_good-p.ensures in
     omega arith
 
 pub loop-at-preserved : goal.loop-at-preserved
 loop-at-preserved c =
-    let q = subst (Progressed _ _ _) c.in-Reached.is c.past_good-p.ensures in
+    let q = subst (Progressed _ _ _) c.in-Continue.is c.past_good-p.ensures in
     clean_then c.loop-at.invariant (clean_then c.past_ascii-from.ensures q.0)
 
-pub returns-in-Ended : goal.returns-in-Ended
-returns-in-Ended c =
-    let q = subst (Progressed _ _ _) c.in-Ended.is c.past_good-p.ensures in
+pub returns-in-Break : goal.returns-in-Break
+returns-in-Break c =
+    let q = subst (Progressed _ _ _) c.in-Break.is c.past_good-p.ensures in
     sym (bad_start _ ∙ c.loop-at.invariant.same ∙ c.past_ascii-from.ensures.same ∙ q)

@@ -32,11 +32,11 @@ returns-in_default c =
 
 pub loop-at-smaller : goal.loop-at-smaller
 loop-at-smaller c =
-    let w = subst (NextAt c.args.text.now c.past_plain-at.result) c.in-Char.is c.look.ensures in
+    let w = subst (NextAt c.args.text.now c.past_plain-at.result) c.in-Some.is c.look.ensures in
     omega (arith, w.1, w.0.within.inside, c.past_plain-at.ensures.forth)
 
 pub loop-at-preserved : goal.loop-at-preserved
 loop-at-preserved c =
     let y = walking_on c.args.stop [] c.args.text.now _ c.loop-at.at c.loop-at.invariant c.past_plain-at.result c.past_plain-at.ensures in
-    let w = subst (NextAt c.args.text.now c.past_plain-at.result) c.in-Char.is c.look.ensures in
+    let w = subst (NextAt c.args.text.now c.past_plain-at.result) c.in-Some.is c.look.ensures in
     (w.0.within, λ z x. y.1 z (upto_more c.args.stop [] c.args.text.now c.past_plain-at.result _ (c.is_at.ensures ∙ sym (starts_one c.args.stop _)) c.if-is_at.false _ _ w.0 z x))

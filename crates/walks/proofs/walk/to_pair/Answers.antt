@@ -28,11 +28,11 @@ returns-in_default c =
 
 pub loop-at-smaller : goal.loop-at-smaller
 loop-at-smaller c =
-    let w = subst (NextAt c.args.text.now c.past_plain-at.result) c.in-Char.is c.look.ensures in
+    let w = subst (NextAt c.args.text.now c.past_plain-at.result) c.in-Some.is c.look.ensures in
     omega (arith, w.1, w.0.within.inside, c.past_plain-at.ensures.forth)
 
 pub loop-at-preserved : goal.loop-at-preserved
 loop-at-preserved c =
     let y = walking_on 42 (47 ∷ []) c.args.text.now _ c.loop-at.at c.loop-at.invariant c.past_plain-at.result c.past_plain-at.ensures in
-    let w = subst (NextAt c.args.text.now c.past_plain-at.result) c.in-Char.is c.look.ensures in
+    let w = subst (NextAt c.args.text.now c.past_plain-at.result) c.in-Some.is c.look.ensures in
     (w.0.within, λ z x. y.1 z (upto_more 42 (47 ∷ []) c.args.text.now c.past_plain-at.result _ c.pair_at.ensures c.if-pair_at.false _ _ w.0 z x))
