@@ -1,5 +1,5 @@
 -- Laws of hexadecimal digits: one, and several one after another. Assumes nothing.
-use Rattle.std.specs.Prelude.{if◌then◌else◌}
+use Rattle.std.specs.Prelude.{if◌then◌else◌, Some, None}
 use mathlib.Core.Path.{◌≡◌, refl, sym, ◌∙◌, ap}
 use mathlib.Core.Bool.{Bool, true, false, ◌||◌, false≢true}
 use mathlib.Core.List.{List, [], ◌∷◌, ◌++◌}
@@ -17,16 +17,15 @@ use Rattle.rules.specs.Strings.{hex_code}
 use Rattle.bridge.specs.Bridge.{Low, Flat}
 use Rattle.bridge.proofs.Tests.{low_or, low_within, low_weak}
 use Rattle.bridge.proofs.Bytes.{byte_cons, byte_next, next_cons}
-use Rattle.escapes.specs.declared.Value.TheVariants as value
 use Rattle.escapes.specs.Escapes.{value_of, digit_of}
 
 -- ── Numbers that may be missing ──
 
-pub value_some : (o : Option ℕ) (v : ℕ) → value_of o ≡ value.Some v → o ≡ some v
+pub value_some : (o : Option ℕ) (v : ℕ) → value_of o ≡ Some v → o ≡ some v
 value_some none v e = absurd (let z : ◌≡◌ {A = ℕ} 0 1 = cc in omega arith)
 value_some (some w) v e = let q : w ≡ v = cc in rw q
 
-pub value_none : (o : Option ℕ) → value_of o ≡ value.None → o ≡ none
+pub value_none : (o : Option ℕ) → value_of o ≡ None → o ≡ none
 value_none none e = refl
 value_none (some w) e = absurd (let z : ◌≡◌ {A = ℕ} 0 1 = cc in omega arith)
 
@@ -40,19 +39,19 @@ hex_low =
     (low_within 11 97 102 (omega arith) (omega arith))
 
 module _ (b : ℕ) where
-  pub digit_figure : within 48 57 b ≡ true → value.Some (b - 48) ≡ digit_of b
+  pub digit_figure : within 48 57 b ≡ true → Some (b - 48) ≡ digit_of b
   unfolding digit_of is_hex_digit is_digit hex_value
   digit_figure t = rw t
 
-  pub digit_upper : within 48 57 b ≡ false → within 65 70 b ≡ true → value.Some (b - 55) ≡ digit_of b
+  pub digit_upper : within 48 57 b ≡ false → within 65 70 b ≡ true → Some (b - 55) ≡ digit_of b
   unfolding digit_of is_hex_digit is_digit hex_value
   digit_upper f t = rw (f, t)
 
-  pub digit_lower : within 48 57 b ≡ false → within 65 70 b ≡ false → within 97 102 b ≡ true → value.Some (b - 87) ≡ digit_of b
+  pub digit_lower : within 48 57 b ≡ false → within 65 70 b ≡ false → within 97 102 b ≡ true → Some (b - 87) ≡ digit_of b
   unfolding digit_of is_hex_digit is_digit hex_value
   digit_lower f g t = rw (f, g, t)
 
-  pub digit_none : within 48 57 b ≡ false → within 65 70 b ≡ false → within 97 102 b ≡ false → value.None ≡ digit_of b
+  pub digit_none : within 48 57 b ≡ false → within 65 70 b ≡ false → within 97 102 b ≡ false → None ≡ digit_of b
   unfolding digit_of is_hex_digit is_digit
   digit_none f g t = rw (f, g, t)
 
@@ -67,22 +66,22 @@ hex_small c h = go (within 48 57 c) (within 65 70 c) (within 97 102 c) refl refl
     go false false true p q r h = let w = within_bounds 97 102 c r in omega arith
     go false false false p q r h = absurd (false≢true h)
 
-digit_is : (c d : ℕ) → digit_of c ≡ value.Some d → (is_hex_digit c ≡ true) × (hex_value c ≡ d)
+digit_is : (c d : ℕ) → digit_of c ≡ Some d → (is_hex_digit c ≡ true) × (hex_value c ≡ d)
 unfolding digit_of
 digit_is c d e = go (is_hex_digit c) refl e
   where
-    go : (b : Bool) → is_hex_digit c ≡ b → (if b then value.Some (hex_value c) else value.None) ≡ value.Some d → (b ≡ true) × (hex_value c ≡ d)
+    go : (b : Bool) → is_hex_digit c ≡ b → (if b then Some (hex_value c) else None) ≡ Some d → (b ≡ true) × (hex_value c ≡ d)
     go true h k = (refl, cc)
     go false h k = absurd (let z : ◌≡◌ {A = ℕ} 0 1 = cc in omega arith)
 
-pub digit_small : (c d : ℕ) → digit_of c ≡ value.Some d → d < 16
+pub digit_small : (c d : ℕ) → digit_of c ≡ Some d → d < 16
 digit_small c d e = let q = digit_is c d e in rw (← q.1) (hex_small c q.0)
 
-not_digit : (c : ℕ) → digit_of c ≡ value.None → is_hex_digit c ≡ false
+not_digit : (c : ℕ) → digit_of c ≡ None → is_hex_digit c ≡ false
 unfolding digit_of
 not_digit c e = go (is_hex_digit c) refl e
   where
-    go : (b : Bool) → is_hex_digit c ≡ b → (if b then value.Some (hex_value c) else value.None) ≡ value.None → b ≡ false
+    go : (b : Bool) → is_hex_digit c ≡ b → (if b then Some (hex_value c) else None) ≡ None → b ≡ false
     go true h k = absurd (let z : ◌≡◌ {A = ℕ} 0 1 = cc in omega arith)
     go false h k = refl
 
@@ -93,7 +92,7 @@ abbrev pub Along : List ℕ → ℕ → ℕ → ℕ → ℕ → Type 0
 Along s at k v i = hex_code 4 0 (chars_at s at) ≡ hex_code k v (chars_at s i)
 
 module _ (s : List ℕ) where
-  pub along_more : (at k v i d w j : ℕ) → Along s at (suc k) v i → digit_of (get_or s i 0) ≡ value.Some d → w ≡ v * 16 + d → j ≡ i + 1 → Along s at k w j
+  pub along_more : (at k v i d w j : ℕ) → Along s at (suc k) v i → digit_of (get_or s i 0) ≡ Some d → w ≡ v * 16 + d → j ≡ i + 1 → Along s at k w j
   unfolding hex_code
   along_more at k v i d w j a e x y =
       let q = digit_is (get_or s i 0) d e in
@@ -105,14 +104,32 @@ module _ (s : List ℕ) where
   hex_none [] k v e = refl
   hex_none (c ∷ cs) k v e = rw e
 
-  pub along_stop : (at k v i : ℕ) → Along s at (suc k) v i → digit_of (get_or s i 0) ≡ value.None → value.None ≡ value_of (hex_code 4 0 (chars_at s at))
+  pub along_stop : (at k v i : ℕ) → Along s at (suc k) v i → digit_of (get_or s i 0) ≡ None → None ≡ value_of (hex_code 4 0 (chars_at s at))
   along_stop at k v i a e =
       let n = byte_next is_hex_digit (low_weak is_hex_digit hex_low) s i ∙ not_digit (get_or s i 0) e in
       rw (a, hex_none (chars_at s i) k v n)
 
-  pub along_done : (at v i : ℕ) → Along s at 0 v i → value.Some v ≡ value_of (hex_code 4 0 (chars_at s at))
+  pub along_done : (at v i : ℕ) → Along s at 0 v i → Some v ≡ value_of (hex_code 4 0 (chars_at s at))
   unfolding hex_code
   along_done at v i a = rw a
+
+-- One digit at a place has a value, two have, three and four.
+module _ (s : List ℕ) (at : ℕ) {a : ℕ} (x : digit_of (get_or s at 0) ≡ Some a) where
+  pub one_digit : Along s at 3 a (at + 1)
+  one_digit = along_more s at 3 0 at a a (at + 1) refl x (omega arith) refl
+
+  module _ {b : ℕ} (y : digit_of (get_or s (at + 1) 0) ≡ Some b) where
+    pub two_digits : Along s at 2 (a * 16 + b) (at + 2)
+    two_digits = along_more s at 2 a (at + 1) b (a * 16 + b) (at + 2) one_digit y refl (omega arith)
+
+    module _ {c : ℕ} (z : digit_of (get_or s (at + 2) 0) ≡ Some c) where
+      pub three_digits : Along s at 1 ((a * 16 + b) * 16 + c) (at + 3)
+      three_digits = along_more s at 1 (a * 16 + b) (at + 2) c ((a * 16 + b) * 16 + c) (at + 3) two_digits z refl (omega arith)
+
+      module _ {d : ℕ} (w : digit_of (get_or s (at + 3) 0) ≡ Some d) where
+        pub four_digits : Along s at 0 (((a * 16 + b) * 16 + c) * 16 + d) (at + 4)
+        four_digits =
+            along_more s at 0 ((a * 16 + b) * 16 + c) (at + 3) d (((a * 16 + b) * 16 + c) * 16 + d) (at + 4) three_digits w refl (omega arith)
 
 -- ── What digits that have a value are ──
 

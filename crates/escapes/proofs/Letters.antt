@@ -15,7 +15,6 @@ use Rattle.characters.proofs.Choice.{and_both, or_either, within_bounds}
 use Rattle.rules.specs.Text.{one_of}
 use Rattle.rules.specs.Tables.{ESCAPES, lookup}
 use Rattle.bridge.proofs.Tests.{all_pass}
-use Rattle.escapes.specs.Escapes.{byte_of}
 
 -- None of the keys, the last arm's first, as a `match` with one key an arm tells it.
 abbrev pub Missed : List ℕ → ℕ → Type 0
@@ -82,13 +81,3 @@ lookup_value f (r ∷ rows) e v h k =
 pub escape_small : (e v : ℕ) → lookup e ESCAPES ≡ some v → v ≤ 0x7F
 unfolding ESCAPES all_pass
 escape_small e v k = leb-true v 0x7F (lookup_value (λ x. leb x 0x7F) ESCAPES e v refl k)
-
--- ── The byte of a letter ──
-
-pub byte_some : (o : Option ℕ) (b : ℕ) → b ≡ byte_of o → b < 128 → o ≡ some b
-byte_some none b e h = absurd (omega arith)
-byte_some (some v) b e h = ap some (sym e)
-
-pub byte_none : (o : Option ℕ) (b : ℕ) → b ≡ byte_of o → 128 ≤ b → ((v : ℕ) → o ≡ some v → v ≤ 0x7F) → o ≡ none
-byte_none none b e h k = refl
-byte_none (some v) b e h k = let z = k v refl in absurd (omega arith)

@@ -1,4 +1,5 @@
 -- Laws of what stands between the quotes of a character literal, at positions of a text. Assumes nothing.
+use Rattle.std.specs.Prelude.{Option, Some, None, unwrap_or}
 use mathlib.Core.Path.{◌≡◌, refl, sym, ◌∙◌, ap, subst}
 use mathlib.Core.Bool.{true, false}
 use mathlib.Core.List.{List, [], ◌∷◌}
@@ -20,9 +21,10 @@ use Rattle.bridge.specs.Bridge.{Within, Reach}
 use Rattle.bridge.proofs.Reaches.{reach_nil, reach_join}
 use Rattle.walks.proofs.Enclosed.{reach_offset}
 use Rattle.string_units.specs.declared.Made.TheVariants as made
-use Rattle.string_units.specs.declared.Mistake.TheVariants as mistake
 use Rattle.string_units.specs.declared.Unit as code
 use Rattle.string_units.specs.Units.{unicode_unit, UnitAt}
+use Rattle.escapes.specs.Escapes.{value_of}
+use Rattle.escapes.proofs.Digits.{value_some, value_none}
 use Rattle.escapes.proofs.Letters.{escape_small}
 use Rattle.string_units.proofs.UnitLaws.{char_unit, no_error, plain_unit_lem}
 use Rattle.characters.proofs.Widths.{width_one}
@@ -44,24 +46,30 @@ module _ (s : List ℕ) (p r : Position) (e : ℕ) (k : Reach s p (92 ∷ e ∷ 
   two_on = reach_offset s p r (92 ∷ e ∷ []) k
 
   made_one : (c : ℕ) → c ≤ 0x10FFFF → p.offset + width c ≤ r.offset → p.offset < r.offset
-      → UnitAt s p (record { chars = 92 ∷ e ∷ []; made = c ∷ []; faults = [] }) (record { next = r; made = made.Char c; mistake = mistake.None })
+      → UnitAt s p (record { chars = 92 ∷ e ∷ []; made = c ∷ []; faults = [] }) (record { next = r; made = made.Char c; mistake = None })
   made_one c l w h =
-      char_unit s p r (record { chars = 92 ∷ e ∷ []; made = c ∷ []; faults = [] }) mistake.None k h (no_error p (92 ∷ e ∷ []) (c ∷ [])) c refl l w
+      char_unit s p r (record { chars = 92 ∷ e ∷ []; made = c ∷ []; faults = [] }) None k h (no_error p (92 ∷ e ∷ []) (c ∷ [])) c refl l w
 
   -- A letter that is no escape's stands for itself.
-  pub letter_itself : e ≤ 0x10FFFF → lookup e ESCAPES ≡ none
-      → UnitAt s p (escape_letter e cs) (record { next = r; made = made.Char e; mistake = mistake.None })
+  letter_itself : e ≤ 0x10FFFF → lookup e ESCAPES ≡ none
+      → UnitAt s p (escape_letter e cs) (record { next = r; made = made.Char e; mistake = None })
   unfolding escape_letter escape plain_escape
   letter_itself l y = let o = two_on in rw (ne_eqb e 117 n, y) (made_one e l (omega arith) (omega arith))
 
-  pub letter_escape : (v : ℕ) → lookup e ESCAPES ≡ some v
-      → UnitAt s p (escape_letter e cs) (record { next = r; made = made.Char v; mistake = mistake.None })
+  letter_escape : (v : ℕ) → lookup e ESCAPES ≡ some v
+      → UnitAt s p (escape_letter e cs) (record { next = r; made = made.Char v; mistake = None })
   unfolding escape_letter escape plain_escape
   letter_escape v y =
       let o = two_on in
       let l = escape_small e v y in
       let w = width_one v l in
       rw (ne_eqb e 117 n, y) (made_one v (omega arith) (omega arith) (omega arith))
+
+  -- The letter `v` that an escape stands for, or its own.
+  pub letter_or : (o : Option ℕ) (v : ℕ) → e ≤ 0x10FFFF → o ≡ value_of (lookup e ESCAPES) → v ≡ unwrap_or o e
+      → UnitAt s p (escape_letter e cs) (record { next = r; made = made.Char v; mistake = None })
+  letter_or None v l f g = rw g (letter_itself l (value_none (lookup e ESCAPES) (sym f)))
+  letter_or (Some x) v l f g = rw g (letter_escape x (value_some (lookup e ESCAPES) x (sym f)))
 
 -- ── What stands behind the opening quote ──
 
@@ -84,11 +92,11 @@ module _ (s : List ℕ) (p q : Position) (c : ℕ) (r : Reach s p (c ∷ []) q) 
   plain_is (d ∷ cs) n = (refl, rw (ne_eqb c 92 n))
 
   pub letter_plain : Within s p → p.offset < q.offset → (c ≡ 92 → ⊥)
-      → (runs_out (chars_at s p.offset) ≡ false) × UnitAt s p (letter_of (chars_at s p.offset)) (record { next = q; made = made.Own; mistake = mistake.None })
+      → (runs_out (chars_at s p.offset) ≡ false) × UnitAt s p (letter_of (chars_at s p.offset)) (record { next = q; made = made.Own; mistake = None })
   letter_plain w h n =
       let x = plain_is (chars_at s q.offset) n in (
         ap runs_out r.chars ∙ x.0,
-        subst (λ (u : StringUnit). UnitAt s p u (record { next = q; made = made.Own; mistake = mistake.None })) (sym (ap letter_of r.chars ∙ x.1)) (plain_unit_lem s p q c w r h),
+        subst (λ (u : StringUnit). UnitAt s p u (record { next = q; made = made.Own; mistake = None })) (sym (ap letter_of r.chars ∙ x.1)) (plain_unit_lem s p q c w r h),
       )
 
   module _ (e : ℕ) (t : Position) (k : Reach s q (e ∷ []) t) (x : c ≡ 92) where

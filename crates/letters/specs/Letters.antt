@@ -1,5 +1,5 @@
 -- What the functions of a character literal promise.
-use Rattle.std.specs.Prelude.{◌≡◌, Bool, true, false, List, [], ◌∷◌, ℕ, ◌+◌, ◌*◌, ◌-◌, ◌≤◌, take, if◌then◌else◌}
+use Rattle.std.specs.Prelude.{◌≡◌, Bool, true, false, List, [], ◌∷◌, ℕ, ◌+◌, ◌*◌, ◌-◌, ◌≤◌, take, if◌then◌else◌, Result, Ok, Err}
 use Rattle.characters.specs.Choice.{◌is◌}
 use Rattle.characters.specs.Utf8.{chars_at, encode}
 use Rattle.spans.specs.declared.Position.{Position}
@@ -16,8 +16,7 @@ use Rattle.walks.specs.Errors.{unclosed}
 use Rattle.walks.specs.Segments.{segment_at, errors_at, OneToken}
 use Rattle.string_units.specs.Units.{UnitAt}
 use Rattle.records.specs.Fields.{LONGEST_ERROR}
-use Rattle.letters.specs.declared.Letter.{Letter}
-use Rattle.letters.specs.declared.Letter.TheVariants as letter
+use Rattle.string_units.specs.declared.Unit as code
 
 -- An escape with the letter `e`, before `cs`, as a unit (lexer.rs, lines 785 to 831).
 unfoldable pub escape_letter : Char → Text → StringUnit
@@ -38,10 +37,10 @@ runs_out (c ∷ []) = c is ch "\\"
 runs_out (c ∷ e ∷ cs) = false
 
 -- What stands at `p`, behind the opening quote; or the text ran out, and then all that is left was passed.
-abbrev pub LetterAt : List ℕ → Position → Letter → Type 0
-LetterAt s p (letter.Some u) =
+abbrev pub LetterAt : List ℕ → Position → Result code.Unit Position → Type 0
+LetterAt s p (Ok u) =
     (runs_out (chars_at s p.offset) ≡ false) × UnitAt s p (letter_of (chars_at s p.offset)) u
-LetterAt s p (letter.RanOut q) =
+LetterAt s p (Err q) =
     (runs_out (chars_at s p.offset) ≡ true) × Reach s p (chars_at s p.offset) q × (chars_at s q.offset ≡ [])
 
 -- The closing quote stands at `p`, or its error is written.

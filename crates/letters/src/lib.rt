@@ -11,18 +11,10 @@ ghost use Rattle.string_runs.specs.Runs.{Room};
 ghost use Rattle.letters.specs.Letters.{escape_letter, LetterAt, ClosedAt, CharacterAt};
 ghost use Rattle.output.specs.Writing.{PLACES};
 
-use escapes::Value;
 use rules::error_kinds::UNTERMINATED_CHARACTER;
 use spans::Position;
-use string_units::{BACKSLASH, LETTER_U, Made, Mistake, Unit};
+use string_units::{BACKSLASH, LETTER_U, Made, Unit};
 use walks::error;
-
-// What stands behind the opening quote: a character or an escape; or the text ran out, behind the quote or behind a backslash.
-#[derive(Clone, Copy)]
-pub enum Letter {
-    Some(Unit),
-    RanOut(Position),
-}
 
 // The escape of the backslash at p and the letter e, before r. A letter that is no escape's stands for itself.
 fn escape(text: &[u8], p: Position, e: u32, r: Position) -> Unit
@@ -34,38 +26,28 @@ fn escape(text: &[u8], p: Position, e: u32, r: Position) -> Unit
     if e == LETTER_U {
         return string_units::unicode(text, p, r);
     }
-    let Value::Some(v) = escapes::escaped(e) else {
-        return Unit {
-            next: r,
-            made: Made::Char(e),
-            mistake: Mistake::None,
-        };
-    };
     Unit {
         next: r,
-        made: Made::Char(v),
-        mistake: Mistake::None,
+        made: Made::Char(escapes::escaped(e).unwrap_or(e)),
+        mistake: None,
     }
 }
 
-// What stands at p, behind the opening quote.
-fn letter_at(text: &[u8], p: Position) -> Letter
+// What stands at p, behind the opening quote: a character or an escape; or the position where the text ran out, behind the quote or
+// behind a backslash.
+fn letter_at(text: &[u8], p: Position) -> Result<Unit, Position>
     requires { Within text.now p }
     ensures { LetterAt text.now p result }
 {
-    let Some((c, q)) = bridge::look(text, p) else {
-        return Letter::RanOut(p);
-    };
+    let (c, q) = bridge::look(text, p).ok_or(p)?;
     if c == BACKSLASH {
-        let Some((e, r)) = bridge::look(text, q) else {
-            return Letter::RanOut(q);
-        };
-        return Letter::Some(escape(text, p, e, r));
+        let (e, r) = bridge::look(text, q).ok_or(q)?;
+        return Ok(escape(text, p, e, r));
     }
-    Letter::Some(Unit {
+    Ok(Unit {
         next: q,
         made: Made::Own,
-        mistake: Mistake::None,
+        mistake: None,
     })
 }
 
@@ -116,7 +98,7 @@ pub fn character(
     let q = bridge::along(p, 1);
     let l = letter_at(text, q);
     match l {
-        Letter::Some(u) => {
+        Ok(u) => {
             let next = u.next;
             let makes = u.made;
             let mistake = u.mistake;
@@ -124,7 +106,7 @@ pub fn character(
             let noted = string_runs::put_mistake(q, mistake, errors, used_errors);
             close(text, next, made, errors, noted)
         }
-        Letter::RanOut(end) => {
+        Err(end) => {
             let noted = error::put_unclosed(
                 errors,
                 used_errors,

@@ -1,5 +1,5 @@
 -- Laws of units one after another, and of what is written of them. Assumes nothing.
-use Rattle.std.specs.Prelude.{if◌then◌else◌}
+use Rattle.std.specs.Prelude.{if◌then◌else◌, Some, None}
 use mathlib.Core.Path.{◌≡◌, refl, sym, ◌∙◌, ap, ap₂, subst}
 use mathlib.Core.Bool.{Bool, true, false}
 use mathlib.Core.List.{List, [], ◌∷◌, ◌++◌, append_assoc, append-nil}
@@ -31,12 +31,12 @@ use Rattle.walks.proofs.Enclosed.{reach_slice}
 use Rattle.records.specs.Layout.{error_bytes}
 use Rattle.records.proofs.Filling.{errors_append}
 use Rattle.string_units.specs.declared.Made.TheVariants as made
-use Rattle.string_units.specs.declared.Mistake.TheVariants as mistake
 use Rattle.string_units.specs.declared.Unit as code
-use Rattle.escapes.specs.Escapes.{byte_of, short_escape}
+use Rattle.escapes.specs.Escapes.{value_of, short_escape}
 use Rattle.string_units.specs.Units.{made_bytes, mistakes, UnitAt}
 use Rattle.string_runs.specs.Runs.{Room, run_chars, run_made, run_errors, Units, Wrote, RunAt}
-use Rattle.escapes.proofs.Letters.{letter_flat, letter_not_u, byte_some}
+use Rattle.escapes.proofs.Digits.{value_some}
+use Rattle.escapes.proofs.Letters.{letter_flat, letter_not_u, escape_small}
 use Rattle.string_units.proofs.UnitLaws.{escape_char, stands_escape, some_at}
 use Rattle.string_runs.proofs.RunLaws.{mistakes_few, itself, plain_itself}
 
@@ -112,20 +112,23 @@ units_plain s p q w k =
 -- ── Escapes of one byte ──
 
 -- The backslash and the letter that they stand for.
-short_both : (s : List ℕ) (at v : ℕ) → v ≡ short_escape s at → v < 128 → (get_or s at 0 is 92 ≡ true) × (lookup (get_or s (at + 1) 0) ESCAPES ≡ some v)
+short_both : (s : List ℕ) (at v : ℕ) → short_escape s at ≡ Some v → (get_or s at 0 is 92 ≡ true) × (lookup (get_or s (at + 1) 0) ESCAPES ≡ some v)
 unfolding short_escape
-short_both s at v e h = go (get_or s at 0 is 92) refl e
+short_both s at v e = go (get_or s at 0 is 92) refl e
   where
-    go : (b : Bool) → get_or s at 0 is 92 ≡ b → v ≡ (if b then byte_of (lookup (get_or s (at + 1) 0) ESCAPES) else 128)
+    go : (b : Bool) → get_or s at 0 is 92 ≡ b → (if b then value_of (lookup (get_or s (at + 1) 0) ESCAPES) else None) ≡ Some v
         → (get_or s at 0 is 92 ≡ true) × (lookup (get_or s (at + 1) 0) ESCAPES ≡ some v)
-    go true f y = (f, byte_some (lookup (get_or s (at + 1) 0) ESCAPES) v y h)
-    go false f y = absurd (omega arith)
+    go true f y = (f, value_some (lookup (get_or s (at + 1) 0) ESCAPES) v y)
+    go false f y = absurd (let z : ◌≡◌ {A = ℕ} 0 1 = cc in omega arith)
 
-module _ (s : List ℕ) (p : Position) (w : Within s p) (v : ℕ) (e : v ≡ short_escape s p.offset) (h : v < 128) where
+module _ (s : List ℕ) (p : Position) (w : Within s p) (v : ℕ) (e : short_escape s p.offset ≡ Some v) where
+  pub short_low : v ≤ 0x7F
+  short_low = escape_small (get_or s (p.offset + 1) 0) v (short_both s p.offset v e).1
+
   short_unit : (stands (chars_at s p.offset) ≡ true)
-      × UnitAt s p (unit_of (chars_at s p.offset)) (record { next = onward p 2; made = made.Char v; mistake = mistake.None })
+      × UnitAt s p (unit_of (chars_at s p.offset)) (record { next = onward p 2; made = made.Char v; mistake = None })
   short_unit =
-      let b = short_both s p.offset v e h in
+      let b = short_both s p.offset v e in
       let l = get_or s (p.offset + 1) 0 in
       let f = letter_flat l v b.1 in
       let x = one_on s p 92 (omega arith) (omega arith) w (byte_next (exactly 92) (low_is 1 92 (omega arith) (omega arith)) s p.offset ∙ b.0) in
@@ -135,7 +138,7 @@ module _ (s : List ℕ) (p : Position) (w : Within s p) (v : ℕ) (e : v ≡ sho
 
   pub units_short : (q : Position) → q ≡ onward p 2 → Units s p q (v ∷ []) []
   unfolding error_bytes encode_char
-  units_short q m = rw m (rw (le-leb v 0x7F (omega arith)) at (units_unit s p _ short_unit))
+  units_short q m = rw m (rw (le-leb v 0x7F short_low) at (units_unit s p _ short_unit))
 
 -- ── Units written without errors ──
 

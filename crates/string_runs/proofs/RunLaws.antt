@@ -1,5 +1,5 @@
 -- Laws of what one unit writes, and of characters that stand for themselves. Assumes nothing.
-use Rattle.std.specs.Prelude.{if◌then◌else◌}
+use Rattle.std.specs.Prelude.{if◌then◌else◌, Option, Some, None}
 use mathlib.Core.Path.{◌≡◌, refl, sym, ◌∙◌, ap, ap₂, subst}
 use mathlib.Core.Bool.{Bool, true, false, true≢false}
 use mathlib.Core.List.{List, [], ◌∷◌, ◌++◌}
@@ -32,11 +32,11 @@ use Rattle.string_units.proofs.UnitLaws.{no_error, stands_plain}
 pub error_few : (e : TokenizeError) → length (error_bytes (e ∷ [])) ≤ 29
 error_few e = omega (arith, errors_size_lem (e ∷ []))
 
-pub mistakes_few : (p : Position) (m : Mistake) → length (error_bytes (mistakes p m)) ≤ 29
+pub mistakes_few : (p : Position) (m : Option Mistake) → length (error_bytes (mistakes p m)) ≤ 29
 unfolding error_bytes
-mistakes_few p mistake.None = omega arith
-mistakes_few p mistake.BadUnicode = error_few _
-mistakes_few p (mistake.BadEscape e) = error_few _
+mistakes_few p None = omega arith
+mistakes_few p (Some mistake.BadUnicode) = error_few _
+mistakes_few p (Some (mistake.BadEscape e)) = error_few _
 
 -- ── What one unit writes ──
 
@@ -44,15 +44,15 @@ pub made_put : (old new s : List ℕ) (from to at r : ℕ) (m n : Made) → m �
 made_put old new s from to at r m n e w = subst (λ (x : Made). Put old new at (made_bytes s from to x) r) (sym e) w
 
 module _ (old new : List ℕ) (at r : ℕ) (p : Position) where
-  pub mistake_put : (m n : Mistake) → m ≡ n → Put old new at (error_bytes (mistakes p n)) r → Put old new at (error_bytes (mistakes p m)) r
-  mistake_put m n e w = subst (λ (x : Mistake). Put old new at (error_bytes (mistakes p x)) r) (sym e) w
+  pub mistake_put : (m n : Option Mistake) → m ≡ n → Put old new at (error_bytes (mistakes p n)) r → Put old new at (error_bytes (mistakes p m)) r
+  mistake_put m n e w = subst (λ (x : Option Mistake). Put old new at (error_bytes (mistakes p x)) r) (sym e) w
 
   -- An error behind the backslash.
-  pub unicode_put : Put old new at (error_record BadUnicodeEscape (span_behind p) 0) r → Put old new at (error_bytes (mistakes p mistake.BadUnicode)) r
+  pub unicode_put : Put old new at (error_record BadUnicodeEscape (span_behind p) 0) r → Put old new at (error_bytes (mistakes p (Some mistake.BadUnicode))) r
   unfolding code_of
   unicode_put w = put_one old new at r (record { kind = BadUnicodeEscape; span = span_behind p; char = none }) w
 
-  pub escape_put : (e : ℕ) → Put old new at (error_record BadEscape (span_behind p) e) r → Put old new at (error_bytes (mistakes p (mistake.BadEscape e))) r
+  pub escape_put : (e : ℕ) → Put old new at (error_record BadEscape (span_behind p) e) r → Put old new at (error_bytes (mistakes p (Some (mistake.BadEscape e)))) r
   unfolding code_of
   escape_put e w = put_one old new at r (record { kind = BadEscape; span = span_behind p; char = some e }) w
 

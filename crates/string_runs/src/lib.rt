@@ -12,7 +12,7 @@ ghost use Rattle.string_runs.specs.Runs.{USED, Room, Wrote, RunAt};
 
 use rules::error_kinds::{BAD_ESCAPE, BAD_UNICODE_ESCAPE};
 use spans::Position;
-use string_units::{Found, Made, Mistake};
+use string_units::{Made, Mistake};
 use walks::error;
 
 // Units without errors, one after another: where they end, and how many bytes of the texts are used then.
@@ -65,15 +65,15 @@ fn put_behind(p: Position, kind: u8, code: u32, errors: &mut [u8], at: usize) ->
 }
 
 // Writes the error of a unit at p.
-pub fn put_mistake(p: Position, mistake: Mistake, errors: &mut [u8], at: usize) -> usize
+pub fn put_mistake(p: Position, mistake: Option<Mistake>, errors: &mut [u8], at: usize) -> usize
     requires fits { Fits p 1 }
     requires at_bound { at ≤ PLACES }
     ensures { Put errors.old errors.new at (error_bytes (mistakes p mistake)) result }
 {
     match mistake {
-        Mistake::None => at,
-        Mistake::BadUnicode => put_behind(p, BAD_UNICODE_ESCAPE, 0, errors, at),
-        Mistake::BadEscape(e) => put_behind(p, BAD_ESCAPE, e, errors, at),
+        None => at,
+        Some(Mistake::BadUnicode) => put_behind(p, BAD_UNICODE_ESCAPE, 0, errors, at),
+        Some(Mistake::BadEscape(e)) => put_behind(p, BAD_ESCAPE, e, errors, at),
     }
 }
 
@@ -85,14 +85,11 @@ fn put_escapes(text: &[u8], p: Position, texts: &mut [u8], used_texts: usize) ->
 {
     let mut at = p;
     let mut made = used_texts;
-    loop {
-        let v = escapes::short_escape(text, at.offset);
-        if escapes::NO_BYTE <= v {
-            return Written { at, texts: made };
-        }
+    while let Some(v) = escapes::short_escape(text, at.offset) {
         made = output::put_byte(texts, made, v);
         at = bridge::along(at, 2);
     }
+    Written { at, texts: made }
 }
 
 // Writes the characters that stand for themselves and the escapes of one byte, from p on.
@@ -137,7 +134,7 @@ pub fn run_units(
         let w = put_simple(text, at, texts, made);
         let q = w.at;
         let part = w.texts;
-        let Found::Some(u) = string_units::unit_at(text, q) else {
+        let Some(u) = string_units::unit_at(text, q) else {
             return Run {
                 at: q,
                 texts: part,

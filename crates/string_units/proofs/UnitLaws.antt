@@ -1,5 +1,6 @@
 -- Laws of one unit of a string. Assumes nothing.
-use Rattle.std.specs.Prelude.{if◌then◌else◌}
+use Rattle.std.specs.Prelude as std
+use Rattle.std.specs.Prelude.{if◌then◌else◌, Some, None}
 use mathlib.Core.Path.{◌≡◌, refl, sym, ◌∙◌, ap, subst}
 use mathlib.Core.Bool.{Bool, true, false, not, true≢false, false≢true}
 use mathlib.Core.List.{List, [], ◌∷◌, ◌++◌, append-nil}
@@ -29,7 +30,6 @@ use Rattle.string_units.specs.declared.Made.TheVariants as made
 use Rattle.string_units.specs.declared.Mistake.{Mistake}
 use Rattle.string_units.specs.declared.Mistake.TheVariants as mistake
 use Rattle.string_units.specs.declared.Unit as code
-use Rattle.string_units.specs.declared.Found.{Found}
 use Rattle.string_units.specs.Units.{backslash, backslash_u, unicode_unit, mistakes, UnitAt, FoundAt, plain_found}
 use Rattle.escapes.proofs.Digits.{digits_stand, four_below}
 use Rattle.escapes.proofs.Letters.{escape_small}
@@ -41,7 +41,7 @@ reach_bytes s p q t h r = sym (reach_slice s p q t r h)
 
 -- ── Units by what they make ──
 
-module _ (s : List ℕ) (p q : Position) (u : StringUnit) (m : Mistake) (r : Reach s p u.chars q) (h : p.offset < q.offset)
+module _ (s : List ℕ) (p q : Position) (u : StringUnit) (m : std.Option Mistake) (r : Reach s p u.chars q) (h : p.offset < q.offset)
     (e : unit_errors p u ≡ mistakes p m) where
   -- Nothing.
   pub empty_unit : u.made ≡ [] → UnitAt s p u (record { next = q; made = made.Nothing; mistake = m })
@@ -79,9 +79,9 @@ no_error p t m = refl
 -- ── Plain characters ──
 
 pub plain_unit_lem : (s : List ℕ) (p q : Position) (c : ℕ) → Within s p → Reach s p (c ∷ []) q → p.offset < q.offset
-    → UnitAt s p (plain_unit c) (record { next = q; made = made.Own; mistake = mistake.None })
+    → UnitAt s p (plain_unit c) (record { next = q; made = made.Own; mistake = None })
 unfolding plain_unit
-plain_unit_lem s p q c w r h = own_unit s p q (plain_unit c) mistake.None r h (no_error p (c ∷ []) (c ∷ [])) w.inside refl
+plain_unit_lem s p q c w r h = own_unit s p q (plain_unit c) None r h (no_error p (c ∷ []) (c ∷ [])) w.inside refl
 
 -- ── Four digits ──
 
@@ -119,11 +119,11 @@ module _ (s : List ℕ) (p r : Position) (b : Reach s p backslash_u r) where
 
   -- No four digits.
   pub unicode_bad : hex_code 4 0 (chars_at s r.offset) ≡ none
-      → UnitAt s p (unicode_unit (chars_at s r.offset)) (record { next = r; made = made.Nothing; mistake = mistake.BadUnicode })
+      → UnitAt s p (unicode_unit (chars_at s r.offset)) (record { next = r; made = made.Nothing; mistake = Some mistake.BadUnicode })
   unfolding unicode_unit unicode_escape
   unicode_bad e =
       let o = u_on in
-      rw e (empty_unit s p r (record { chars = backslash_u; made = []; faults = fault BadUnicodeEscape 1 1 ∷ [] }) mistake.BadUnicode b (omega arith)
+      rw e (empty_unit s p r (record { chars = backslash_u; made = []; faults = fault BadUnicodeEscape 1 1 ∷ [] }) (Some mistake.BadUnicode) b (omega arith)
       (one_error p (117 ∷ []) [] BadUnicodeEscape none) refl)
 
   module _ (v : ℕ) (n : Position) (q : n ≡ onward r 4) (e : hex_code 4 0 (chars_at s r.offset) ≡ some v) where
@@ -137,23 +137,23 @@ module _ (s : List ℕ) (p r : Position) (b : Reach s p backslash_u r) where
 
     -- Four digits that are a character.
     pub unicode_char : is_scalar v ≡ true
-        → UnitAt s p (unicode_unit (chars_at s r.offset)) (record { next = n; made = made.Char v; mistake = mistake.None })
+        → UnitAt s p (unicode_unit (chars_at s r.offset)) (record { next = n; made = made.Char v; mistake = None })
     unfolding unicode_unit unicode_escape
     unicode_char k =
         let x = scalar_char v k in
         let o = u_on in
         let l = width_small v (four_below v (chars_at s r.offset) e) in
-        rw (e, q) (char_unit s p (onward r 4) (record { chars = backslash_u ++ four; made = char_of v; faults = [] }) mistake.None six (omega arith)
+        rw (e, q) (char_unit s p (onward r 4) (record { chars = backslash_u ++ four; made = char_of v; faults = [] }) None six (omega arith)
         (no_error p (backslash_u ++ four) (char_of v)) v x.0 x.1 (omega arith))
 
     -- Four digits that are none.
     pub unicode_none : is_scalar v ≡ false
-        → UnitAt s p (unicode_unit (chars_at s r.offset)) (record { next = n; made = made.Nothing; mistake = mistake.None })
+        → UnitAt s p (unicode_unit (chars_at s r.offset)) (record { next = n; made = made.Nothing; mistake = None })
     unfolding unicode_unit unicode_escape
     unicode_none k =
         let o = u_on in
         let x = surrogate_none v (four_below v (chars_at s r.offset) e) k in
-        rw (e, q) (empty_unit s p (onward r 4) (record { chars = backslash_u ++ four; made = char_of v; faults = [] }) mistake.None six (omega arith)
+        rw (e, q) (empty_unit s p (onward r 4) (record { chars = backslash_u ++ four; made = char_of v; faults = [] }) None six (omega arith)
         (no_error p (backslash_u ++ four) (char_of v)) x)
 
 -- ── Escapes ──
@@ -169,11 +169,11 @@ module _ (s : List ℕ) (p q : Position) (b : Reach s p backslash q) where
 
   -- A backslash at the end.
   pub escape_end : chars_at s q.offset ≡ []
-      → UnitAt s p (escape_unit (chars_at s q.offset)) (record { next = q; made = made.Nothing; mistake = mistake.None })
+      → UnitAt s p (escape_unit (chars_at s q.offset)) (record { next = q; made = made.Nothing; mistake = None })
   unfolding escape_unit
   escape_end e =
       let o = back_on in
-      rw e (empty_unit s p q (record { chars = backslash; made = []; faults = [] }) mistake.None b (omega arith) (no_error p backslash []) refl)
+      rw e (empty_unit s p q (record { chars = backslash; made = []; faults = [] }) None b (omega arith) (no_error p backslash []) refl)
 
   module _ (e : ℕ) (r : Position) (k : Reach s q (e ∷ []) r) (h : q.offset < r.offset) where
     pub two : Reach s p (92 ∷ e ∷ []) r
@@ -184,24 +184,24 @@ module _ (s : List ℕ) (p q : Position) (b : Reach s p backslash q) where
     escape_unicode x = rw (k.chars, x)
 
     pub escape_char : (v : ℕ) → (e ≡ 117 → ⊥) → lookup e ESCAPES ≡ some v
-        → UnitAt s p (escape_unit (chars_at s q.offset)) (record { next = r; made = made.Char v; mistake = mistake.None })
+        → UnitAt s p (escape_unit (chars_at s q.offset)) (record { next = r; made = made.Char v; mistake = None })
     unfolding escape_unit escape plain_escape
     escape_char v n y =
         let l = escape_small e v y in
         let w = width_one v l in
         let o = back_on in
         rw (k.chars, ne_eqb e 117 n, y)
-        (char_unit s p r (record { chars = 92 ∷ e ∷ []; made = v ∷ []; faults = [] }) mistake.None two (omega arith)
+        (char_unit s p r (record { chars = 92 ∷ e ∷ []; made = v ∷ []; faults = [] }) None two (omega arith)
         (no_error p (92 ∷ e ∷ []) (v ∷ [])) v refl (omega arith) (omega arith))
 
     pub escape_kept : p.offset ≤ length s → (e ≡ 117 → ⊥) → lookup e ESCAPES ≡ none
-        → UnitAt s p (escape_unit (chars_at s q.offset)) (record { next = r; made = made.Own; mistake = mistake.BadEscape e })
+        → UnitAt s p (escape_unit (chars_at s q.offset)) (record { next = r; made = made.Own; mistake = Some (mistake.BadEscape e) })
     unfolding escape_unit escape plain_escape other_escape
     escape_kept i n y =
         let o = back_on in
         rw (k.chars, ne_eqb e 117 n, y)
         (own_unit s p r (record { chars = 92 ∷ e ∷ []; made = 92 ∷ e ∷ []; faults = record { kind = BadEscape; from = 1; to = 1; char = some e } ∷ [] })
-        (mistake.BadEscape e) two (omega arith) (one_error p (e ∷ []) (92 ∷ e ∷ []) BadEscape (some e)) i refl)
+        (Some (mistake.BadEscape e)) two (omega arith) (one_error p (e ∷ []) (92 ∷ e ∷ []) BadEscape (some e)) i refl)
 
 -- ── Where a unit stands ──
 
@@ -244,6 +244,6 @@ module _ (s : List ℕ) (p q : Position) (c : ℕ) (r : Reach s p (c ∷ []) q) 
       → (stands (chars_at s p.offset) ≡ true) × UnitAt s p (unit_of (chars_at s p.offset)) x
   some_at u x k m = (rw r.chars k.0, subst (λ (y : StringUnit). UnitAt s p y x) (sym (ap unit_of r.chars ∙ k.1)) m)
 
-  pub plain_at : (f : Found) → f ≡ plain_found q → Within s p → p.offset < q.offset
+  pub plain_at : (f : std.Option code.Unit) → f ≡ plain_found q → Within s p → p.offset < q.offset
       → (stands (c ∷ chars_at s q.offset) ≡ true) × (unit_of (c ∷ chars_at s q.offset) ≡ plain_unit c) → FoundAt s p f
-  plain_at f e w h k = rw e (some_at (plain_unit c) (record { next = q; made = made.Own; mistake = mistake.None }) k (plain_unit_lem s p q c w r h))
+  plain_at f e w h k = rw e (some_at (plain_unit c) (record { next = q; made = made.Own; mistake = None }) k (plain_unit_lem s p q c w r h))

@@ -1,5 +1,5 @@
 -- What the functions of one unit promise.
-use Rattle.std.specs.Prelude.{◌≡◌, true, false, List, [], ◌∷◌, ◌++◌, ℕ, ◌+◌, ◌≤◌, ◌<◌, length, take}
+use Rattle.std.specs.Prelude.{◌≡◌, true, false, List, [], ◌∷◌, ◌++◌, ℕ, ◌+◌, ◌≤◌, ◌<◌, length, take, Option, Some, None}
 use Rattle.std.proofs.Math.Option.{none, some}
 use Rattle.std.proofs.Math.Seq.{slice}
 use Rattle.characters.specs.Utf8.{chars_at, encode, encode_char}
@@ -17,8 +17,6 @@ use Rattle.string_units.specs.declared.Made.TheVariants as made
 use Rattle.string_units.specs.declared.Mistake.{Mistake}
 use Rattle.string_units.specs.declared.Mistake.TheVariants as mistake
 use Rattle.string_units.specs.declared.Unit as code
-use Rattle.string_units.specs.declared.Found.{Found}
-use Rattle.string_units.specs.declared.Found.TheVariants as found
 
 abbrev pub backslash : Text
 backslash = text "\\"
@@ -49,10 +47,10 @@ abbrev pub span_behind : Position → Span
 span_behind p = span (onward p 1) (onward p 1)
 
 -- The errors of a unit at the position `p`.
-abbrev pub mistakes : Position → Mistake → List TokenizeError
-mistakes p mistake.None = []
-mistakes p mistake.BadUnicode = record { kind = BadUnicodeEscape; span = span_behind p; char = none } ∷ []
-mistakes p (mistake.BadEscape e) = record { kind = BadEscape; span = span_behind p; char = some e } ∷ []
+abbrev pub mistakes : Position → Option Mistake → List TokenizeError
+mistakes p None = []
+mistakes p (Some mistake.BadUnicode) = record { kind = BadUnicodeEscape; span = span_behind p; char = none } ∷ []
+mistakes p (Some (mistake.BadEscape e)) = record { kind = BadEscape; span = span_behind p; char = some e } ∷ []
 
 -- The unit `u` of the rules, at the position `p`.
 pub record UnitAt (s : List ℕ) (p : Position) (u : StringUnit) (r : code.Unit) : Type 0 where
@@ -64,9 +62,9 @@ pub record UnitAt (s : List ℕ) (p : Position) (u : StringUnit) (r : code.Unit)
   pub small : p.offset + length (encode u.made) ≤ r.next.offset
 
 -- The unit at a position, or none stands there.
-abbrev pub FoundAt : List ℕ → Position → Found → Type 0
-FoundAt s p (found.Some r) = (stands (chars_at s p.offset) ≡ true) × UnitAt s p (unit_of (chars_at s p.offset)) r
-FoundAt s p found.None = stands (chars_at s p.offset) ≡ false
+abbrev pub FoundAt : List ℕ → Position → Option code.Unit → Type 0
+FoundAt s p (Some r) = (stands (chars_at s p.offset) ≡ true) × UnitAt s p (unit_of (chars_at s p.offset)) r
+FoundAt s p None = stands (chars_at s p.offset) ≡ false
 
-abbrev pub plain_found : Position → Found
-plain_found q = found.Some (record { next = q; made = made.Own; mistake = mistake.None })
+abbrev pub plain_found : Position → Option code.Unit
+plain_found q = Some (record { next = q; made = made.Own; mistake = None })

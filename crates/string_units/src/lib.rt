@@ -10,7 +10,6 @@ ghost use Rattle.bridge.specs.Bridge.{Within, Reach};
 ghost use Rattle.string_units.specs.Units.{backslash, backslash_u, unicode_unit, UnitAt, FoundAt, plain_found};
 
 use characters::utf8;
-use escapes::Value;
 use spans::Position;
 
 // The characters that a string's units are told by.
@@ -32,10 +31,9 @@ pub enum Made {
     Char(u32),
 }
 
-// The error of a unit: none, a bad `\u`, or a bad escape with its letter. It stands behind the unit's backslash.
+// The error of a unit: a bad `\u`, or a bad escape with its letter. It stands behind the unit's backslash.
 #[derive(Clone, Copy)]
 pub enum Mistake {
-    None,
     BadUnicode,
     BadEscape(u32),
 }
@@ -45,14 +43,7 @@ pub enum Mistake {
 pub struct Unit {
     pub next: Position,
     pub made: Made,
-    pub mistake: Mistake,
-}
-
-// The unit at a position, or none.
-#[derive(Clone, Copy)]
-pub enum Found {
-    Some(Unit),
-    None,
+    pub mistake: Option<Mistake>,
 }
 
 // Whether a dollar sign before the byte opens an interpolation: a brace, or what a name begins with but a second dollar sign.
@@ -79,11 +70,11 @@ pub fn unicode(text: &[u8], p: Position, r: Position) -> Unit
     ensures { UnitAt text.now p (unicode_unit (chars_at text.now r.offset)) result }
 {
     let at = r.offset;
-    let Value::Some(v) = escapes::four_digits(text, at) else {
+    let Some(v) = escapes::four_digits(text, at) else {
         return Unit {
             next: r,
             made: Made::Nothing,
-            mistake: Mistake::BadUnicode,
+            mistake: Some(Mistake::BadUnicode),
         };
     };
     let next = bridge::along(r, 4);
@@ -91,13 +82,13 @@ pub fn unicode(text: &[u8], p: Position, r: Position) -> Unit
         return Unit {
             next,
             made: Made::Char(v),
-            mistake: Mistake::None,
+            mistake: None,
         };
     }
     Unit {
         next,
         made: Made::Nothing,
-        mistake: Mistake::None,
+        mistake: None,
     }
 }
 
@@ -111,57 +102,57 @@ fn escape(text: &[u8], p: Position, q: Position) -> Unit
         return Unit {
             next: q,
             made: Made::Nothing,
-            mistake: Mistake::None,
+            mistake: None,
         };
     };
     if e == LETTER_U {
         return unicode(text, p, r);
     }
-    let Value::Some(v) = escapes::escaped(e) else {
+    let Some(v) = escapes::escaped(e) else {
         return Unit {
             next: r,
             made: Made::Own,
-            mistake: Mistake::BadEscape(e),
+            mistake: Some(Mistake::BadEscape(e)),
         };
     };
     Unit {
         next: r,
         made: Made::Char(v),
-        mistake: Mistake::None,
+        mistake: None,
     }
 }
 
 // A character that stands for itself, before q.
-fn plain(q: Position) -> Found
+fn plain(q: Position) -> Option<Unit>
     ensures { result ≡ plain_found q }
 {
-    Found::Some(Unit {
+    Some(Unit {
         next: q,
         made: Made::Own,
-        mistake: Mistake::None,
+        mistake: None,
     })
 }
 
 // The unit of a string at a position; none at the end, a line feed, a quote and an interpolation.
-pub fn unit_at(text: &[u8], p: Position) -> Found
+pub fn unit_at(text: &[u8], p: Position) -> Option<Unit>
     requires { Within text.now p }
     ensures { FoundAt text.now p result }
 {
     let Some((c, q)) = bridge::look(text, p) else {
-        return Found::None;
+        return None;
     };
     if c == LINE_FEED {
-        return Found::None;
+        return None;
     }
     if c == QUOTE {
-        return Found::None;
+        return None;
     }
     if c == BACKSLASH {
-        return Found::Some(escape(text, p, q));
+        return Some(escape(text, p, q));
     }
     if c == DOLLAR {
         if opens_at(text, q.offset) {
-            return Found::None;
+            return None;
         }
         return plain(q);
     }

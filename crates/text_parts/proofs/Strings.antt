@@ -1,4 +1,5 @@
 -- Laws of the parts of a string's piece. Assumes nothing.
+use Rattle.std.specs.Prelude.{Option, Some, None, is_some}
 use mathlib.Core.Path.{◌≡◌, refl, sym, ◌∙◌, ap, ap₂, subst}
 use mathlib.Core.Bool.{Bool, true, false, not, false≢true}
 use mathlib.Core.List.{List, [], ◌∷◌, ◌++◌}
@@ -33,9 +34,9 @@ use Rattle.string_units.specs.declared.Unit as code
 use Rattle.string_units.specs.Units.{made_bytes, IsChar, mistakes, UnitAt}
 use Rattle.string_runs.specs.Runs.{run_chars, run_made, run_errors, Units}
 use Rattle.string_runs.proofs.RunLaws.{itself}
-use Rattle.string_runs.proofs.Rows.{units_whole, units_plain, units_short}
+use Rattle.string_runs.proofs.Rows.{units_whole, units_plain, units_short, short_low}
 use Rattle.text_parts.specs.Parts.{part_bytes, PartWithin}
-use Rattle.text_parts.specs.Units.{part_of, is_bad, over_step, text_left, GoesOn, NextAt}
+use Rattle.text_parts.specs.Units.{part_of, over_step, text_left, GoesOn, NextAt}
 use Rattle.text_parts.specs.declared.Part.{Part}
 use Rattle.text_parts.specs.declared.Part.TheVariants as part
 use Rattle.text_parts.specs.declared.units.Step.{Step}
@@ -97,11 +98,11 @@ unit_empty : (p q : Position) (u : StringUnit) → is_empty (error_bytes (unit_e
 unfolding unit_errors
 unit_empty p q u = errors_empty p q (skipped string u.chars u.faults false) u.faults
 
-bad_noted : (p : Position) (m : Mistake) → is_bad m ≡ not (is_empty (error_bytes (mistakes p m)))
+bad_noted : (p : Position) (m : Option Mistake) → is_some m ≡ not (is_empty (error_bytes (mistakes p m)))
 unfolding error_bytes error_record_of error_record head_bytes is_empty
-bad_noted p mistake.None = refl
-bad_noted p mistake.BadUnicode = refl
-bad_noted p (mistake.BadEscape e) = refl
+bad_noted p None = refl
+bad_noted p (Some mistake.BadUnicode) = refl
+bad_noted p (Some (mistake.BadEscape e)) = refl
 
 -- ── The kinds of parts ──
 
@@ -123,15 +124,17 @@ plain_on s from to f h p e w =
 pub none_on : (s : List ℕ) (at : ℕ) → stands (chars_at s at) ≡ false → NextAt s at (over_step at)
 none_on s at h p e w = rw e h
 
-pub short_on : (s : List ℕ) (at v : ℕ) → v ≡ short_escape s at → v < 128
+pub short_on : (s : List ℕ) (at v : ℕ) → short_escape s at ≡ Some v
     → NextAt s at (record { part = part.Char v; at = at + 2; plain = false; bad = false; over = false })
 unfolding is_empty encode_char
-short_on s at v e h p d w =
+short_on s at v e p d w =
+    let f = ap (short_escape s) d ∙ e in
+    let l = short_low s p w v f in
     record {
       notes = [];
       end = onward p 2;
       ends = ap (λ (n : ℕ). n + 2) d;
-      units = rw (le-leb v 0x7F (omega arith)) (units_short s p w v (e ∙ ap (short_escape s) (sym d)) h (onward p 2) refl);
+      units = rw (le-leb v 0x7F l) (units_short s p w v f (onward p 2) refl);
       inside = omega arith;
       plain = λ e. absurd (false≢true e);
       bad = refl;
@@ -160,7 +163,7 @@ module _ (s : List ℕ) (p : Position) (w : Within s p) (u : code.Unit) (h : sta
       (omega (arith, n, y.small, ap length y.made))
       (omega (arith, n, advances_offset p unit.chars, bytes_least unit.chars, errors_size_lem (unit_errors p unit), ap length (unit_errors_lem cs rest h e p), f.few p))
 
-  pub unit_goes : (x : Part) (b : Bool) → x ≡ part_of p.offset u.next.offset u.made → b ≡ is_bad u.mistake
+  pub unit_goes : (x : Part) (b : Bool) → x ≡ part_of p.offset u.next.offset u.made → b ≡ is_some u.mistake
       → GoesOn s p (record { part = x; at = u.next.offset; plain = false; bad = b; over = false })
   unit_goes x b e g =
       let m = u.made in
@@ -178,7 +181,7 @@ module _ (s : List ℕ) (p : Position) (w : Within s p) (u : code.Unit) (h : sta
       }
 
 pub unit_on : (s : List ℕ) (at : ℕ) (u : code.Unit) (x : Part) (b : Bool)
-    → (stands (chars_at s at) ≡ true) × UnitAt s (placed at) (unit_of (chars_at s at)) u → x ≡ part_of at u.next.offset u.made → b ≡ is_bad u.mistake
+    → (stands (chars_at s at) ≡ true) × UnitAt s (placed at) (unit_of (chars_at s at)) u → x ≡ part_of at u.next.offset u.made → b ≡ is_some u.mistake
     → NextAt s at (record { part = x; at = u.next.offset; plain = false; bad = b; over = false })
 unit_on s at u x b f e g p d w =
     let y = subst (λ (n : ℕ). (stands (chars_at s n) ≡ true) × UnitAt s (placed n) (unit_of (chars_at s n)) u) (sym d) f in

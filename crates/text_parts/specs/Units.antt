@@ -7,8 +7,6 @@ use Rattle.cursor.specs.Strings.{stands}
 use Rattle.bridge.specs.Bridge.{Within, is_plain, PastRun}
 use Rattle.string_units.specs.declared.Made.{Made}
 use Rattle.string_units.specs.declared.Made.TheVariants as made
-use Rattle.string_units.specs.declared.Mistake.{Mistake}
-use Rattle.string_units.specs.declared.Mistake.TheVariants as mistake
 use Rattle.string_runs.specs.Runs.{run_made, Units}
 use Rattle.text_parts.specs.Parts.{part_bytes, PartWithin}
 use Rattle.text_parts.specs.declared.Part.{Part}
@@ -20,12 +18,6 @@ abbrev pub part_of : ℕ → ℕ → Made → Part
 part_of from to made.Nothing = part.Nothing
 part_of from to made.Own = part.Bytes from to
 part_of from to (made.Char c) = part.Char c
-
--- A unit with an error.
-abbrev pub is_bad : Mistake → Bool
-is_bad mistake.None = false
-is_bad mistake.BadUnicode = true
-is_bad (mistake.BadEscape e) = true
 
 -- No unit stands at a place.
 abbrev pub over_step : ℕ → Step

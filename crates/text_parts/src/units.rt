@@ -1,10 +1,10 @@
 // The text of a string's piece: its units up to where none stands. A text needs no lines and columns, so all of it goes by places.
 ghost use Rattle.std.specs.Prelude.{◌≡◌};
 ghost use Rattle.bridge.specs.Bridge.{placed, Within};
-ghost use Rattle.text_parts.specs.Units.{part_of, is_bad, over_step, NextAt};
+ghost use Rattle.text_parts.specs.Units.{part_of, over_step, NextAt};
 
 use super::Part;
-use string_units::{Found, Made, Mistake};
+use string_units::Made;
 
 // The bytes of a backslash and its letter.
 const ESCAPE_BYTES: usize = 2;
@@ -44,32 +44,21 @@ fn part_of(from: usize, to: usize, made: Made) -> Part
     }
 }
 
-fn is_bad(mistake: Mistake) -> bool
-    ensures { result ≡ is_bad mistake }
-{
-    match mistake {
-        Mistake::None => false,
-        Mistake::BadUnicode => true,
-        Mistake::BadEscape(_) => true,
-    }
-}
-
 // The unit at a place, or none.
 fn unit_step(text: &[u8], from: usize) -> Step
     requires { Within text.now (placed from) }
     ensures { NextAt text.now from result }
 {
-    let Found::Some(u) = string_units::unit_at(text, bridge::at_place(from)) else {
+    let Some(u) = string_units::unit_at(text, bridge::at_place(from)) else {
         return over_step(from);
     };
     let after = u.next;
     let made = u.made;
-    let mistake = u.mistake;
     Step {
         part: part_of(from, after.offset, made),
         at: after.offset,
         plain: false,
-        bad: is_bad(mistake),
+        bad: u.mistake.is_some(),
         over: false,
     }
 }
@@ -93,8 +82,7 @@ pub fn next(text: &[u8], from: usize) -> Step
     if bridge::is_at(text, from, b'"') {
         return over_step(from);
     }
-    let v = escapes::short_escape(text, from);
-    if v < escapes::NO_BYTE {
+    if let Some(v) = escapes::short_escape(text, from) {
         let made = v as u32;
         let behind = from + ESCAPE_BYTES;
         return Step {

@@ -12,30 +12,30 @@ letter_at-l-requires c =
 
 pub put_made-made-requires : goal.put_made-made-requires
 put_made-made-requires c =
-    let y = subst (LetterAt c.args.text.now c.along-q.result) c.in-Some.is c.letter_at-l.ensures in
+    let y = subst (LetterAt c.args.text.now c.along-q.result) c.in-Ok.is c.letter_at-l.ensures in
     let v = y.1.reach.within in
     record { from_le_to = omega (arith, y.1.forth); to_in_bounds = v.inside; to_bound = omega (arith, v.inside, v.size); char = y.1.char; at_bound = omega (arith, c.requires.room.texts) }
 
 pub put_mistake-noted-requires : goal.put_mistake-noted-requires
 put_mistake-noted-requires c =
-    let y = subst (LetterAt c.args.text.now c.along-q.result) c.in-Some.is c.letter_at-l.ensures in
+    let y = subst (LetterAt c.args.text.now c.along-q.result) c.in-Ok.is c.letter_at-l.ensures in
     let v = y.1.reach.within in
     record { fits = within_fits c.args.text.now c.along-q.result 1 (quote_on c.args.text.now c.args.p c.along-q.result c.requires.within c.requires.offset_value c.along-q.ensures).within (omega arith); at_bound = omega (arith, c.requires.room.errors) }
 
 pub close-requires : goal.close-requires
 close-requires c =
-    let y = subst (LetterAt c.args.text.now c.along-q.result) c.in-Some.is c.letter_at-l.ensures in
+    let y = subst (LetterAt c.args.text.now c.along-q.result) c.in-Ok.is c.letter_at-l.ensures in
     let v = y.1.reach.within in
-    let n = letter_few c.args.text.now c.args.p c.along-q.result c.requires.within c.requires.offset_value c.along-q.ensures c.in-Some.u y _ _ _ _ _ _ _ _ c.put_made-made.ensures c.put_mistake-noted.ensures in
+    let n = letter_few c.args.text.now c.args.p c.along-q.result c.requires.within c.requires.offset_value c.along-q.ensures c.in-Ok.u y _ _ _ _ _ _ _ _ c.put_made-made.ensures c.put_mistake-noted.ensures in
     record { within = v; used_errors_bound = omega (arith, c.requires.room.errors) }
 
-pub returns-in-Some : goal.returns-in-Some
-returns-in-Some c =
-    let y = subst (LetterAt c.args.text.now c.along-q.result) c.in-Some.is c.letter_at-l.ensures in
+pub returns-in-Ok : goal.returns-in-Ok
+returns-in-Ok c =
+    let y = subst (LetterAt c.args.text.now c.along-q.result) c.in-Ok.is c.letter_at-l.ensures in
     let v = y.1.reach.within in
-    finished c.args.text.now c.args.p c.along-q.result c.requires.within c.requires.offset_value c.along-q.ensures c.in-Some.u y _ _ _ _ _ _ _ _ c.put_made-made.ensures c.put_mistake-noted.ensures _ c.close.result c.close.ensures
+    finished c.args.text.now c.args.p c.along-q.result c.requires.within c.requires.offset_value c.along-q.ensures c.in-Ok.u y _ _ _ _ _ _ _ _ c.put_made-made.ensures c.put_mistake-noted.ensures _ c.close.result c.close.ensures
 
-pub returns-in-RanOut : goal.returns-in-RanOut
-returns-in-RanOut c =
-    let y = subst (LetterAt c.args.text.now c.along-q.result) c.in-RanOut.is c.letter_at-l.ensures in
-    unfinished c.args.text.now c.args.p c.along-q.result c.requires.within c.requires.offset_value c.along-q.ensures c.in-RanOut.end _ _ _ _ _ _ y c.put_unclosed-noted.ensures
+pub returns-in-Err : goal.returns-in-Err
+returns-in-Err c =
+    let y = subst (LetterAt c.args.text.now c.along-q.result) c.in-Err.is c.letter_at-l.ensures in
+    unfinished c.args.text.now c.args.p c.along-q.result c.requires.within c.requires.offset_value c.along-q.ensures c.in-Err.end _ _ _ _ _ _ y c.put_unclosed-noted.ensures

@@ -1,3 +1,5 @@
+use Rattle.std.specs.Prelude.{Some}
+use mathlib.Core.Path.{◌∙◌, ap}
 use Rattle.output.proofs.Buffers.{put_none}
 use Rattle.records.specs.Layout.{error_bytes}
 use Rattle.string_runs.proofs.RunLaws.{mistake_put, unicode_put, escape_put}
@@ -8,10 +10,10 @@ unfolding error_bytes
 returns-in-None c =
     mistake_put _ _ _ _ c.args.p c.args.mistake _ c.in-None.is (put_none c.args.errors.now c.args.at)
 
-pub returns-in-BadUnicode : goal.returns-in-BadUnicode
-returns-in-BadUnicode c =
-    mistake_put _ _ _ _ c.args.p c.args.mistake _ c.in-BadUnicode.is (unicode_put _ _ _ _ c.args.p c.put_behind.ensures)
+pub returns-in-Some-BadUnicode : goal.returns-in-Some-BadUnicode
+returns-in-Some-BadUnicode c =
+    mistake_put _ _ _ _ c.args.p c.args.mistake _ (c.in-Some-BadUnicode.is ∙ ap Some (rw c.in-Some-BadUnicode.is at c.in-Some-BadUnicode.field-0-is)) (unicode_put _ _ _ _ c.args.p c.put_behind.ensures)
 
-pub returns-in-BadEscape : goal.returns-in-BadEscape
-returns-in-BadEscape c =
-    mistake_put _ _ _ _ c.args.p c.args.mistake _ c.in-BadEscape.is (escape_put _ _ _ _ c.args.p _ c.put_behind-in-BadEscape.ensures)
+pub returns-in-Some-BadEscape : goal.returns-in-Some-BadEscape
+returns-in-Some-BadEscape c =
+    mistake_put _ _ _ _ c.args.p c.args.mistake _ (c.in-Some-BadEscape.is ∙ ap Some (rw c.in-Some-BadEscape.is at c.in-Some-BadEscape.field-0-is)) (escape_put _ _ _ _ c.args.p _ c.put_behind-in-Some-BadEscape.ensures)

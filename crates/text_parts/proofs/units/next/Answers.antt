@@ -13,16 +13,16 @@ returns-then-is_at c =
     subst (NextAt c.args.text.now c.args.from) (sym c.over_step.ensures)
     (none_on _ _ (quote_over _ _ (sym c.is_at.ensures ∙ c.if-is_at.true)))
 
-pub short_escape-v-requires : goal.short_escape-v-requires
-short_escape-v-requires c =
+pub short_escape-requires : goal.short_escape-requires
+short_escape-requires c =
     omega (arith, c.requires.inside, c.requires.size)
 
 pub overflow_add-behind : goal.overflow_add-behind
 overflow_add-behind c =
     omega (arith, c.requires.inside, c.requires.size)
 
-pub returns-then-v-lt-NO_BYTE : goal.returns-then-v-lt-NO_BYTE
-returns-then-v-lt-NO_BYTE c = short_on _ _ _ c.short_escape-v.ensures (omega arith)
+pub returns-in-Some : goal.returns-in-Some
+returns-in-Some c = short_on _ _ _ (sym c.short_escape.ensures ∙ c.in-Some.is)
 
 pub returns : goal.returns
 returns c = c.unit_step.ensures

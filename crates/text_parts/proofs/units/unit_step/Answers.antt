@@ -19,4 +19,4 @@ returns-in_default c =
 pub returns : goal.returns
 returns c =
     let n = subst (λ (q : Position). FoundAt c.args.text.now q c.unit_at.result) c.at_place.ensures c.unit_at.ensures in
-    unit_on c.args.text.now c.args.from _ _ _ (subst (FoundAt c.args.text.now (placed c.args.from)) c.in-Some.is n) c.part_of.ensures c.is_bad.ensures
+    unit_on c.args.text.now c.args.from _ _ _ (subst (FoundAt c.args.text.now (placed c.args.from)) c.in-Some.is n) c.part_of.ensures c.is_some.ensures
