@@ -36,14 +36,7 @@ pub fn name_end(text: &[u8], from: usize) -> usize
     requires { from ≤ length text.now }
     ensures { Cut text.now from (run is_ident_part (chars_at text.now from)) result }
 {
-    let mut at = from;
-    while at < text.len() {
-        if !is_part(text[at]) {
-            return at;
-        }
-        at += 1;
-    }
-    at
+    runs::past(text, from, is_part)
 }
 
 // The name or keyword at a place: its span ends at its last character.
