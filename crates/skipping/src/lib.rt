@@ -57,14 +57,7 @@ fn past_blanks(text: &[u8], from: usize) -> usize
     requires { from ≤ length text.now }
     ensures { Cut text.now from (run (exactly (ch " ")) (chars_at text.now from)) result }
 {
-    let mut at = from;
-    while at < text.len() {
-        if text[at] != b' ' {
-            return at;
-        }
-        at += 1;
-    }
-    at
+    runs::past(text, from, |b| b == b' ')
 }
 
 // Past the white space beyond ASCII at a position.
