@@ -11,7 +11,7 @@ ghost use Rattle.bridge.specs.Bridge.{Cut};
 pub fn is_digit(b: u8) -> bool
     ensures { result ≡ is_digit b }
 {
-    (b'0' <= b) & (b <= b'9')
+    b.is_ascii_digit()
 }
 
 // A digit or an underscore.
@@ -25,7 +25,7 @@ fn is_grouped(b: u8) -> bool
 fn is_hex_part(b: u8) -> bool
     ensures { result ≡ hex_part b }
 {
-    ((b'0' <= b) & (b <= b'9')) | ((b'A' <= b) & (b <= b'F')) | ((b'a' <= b) & (b <= b'f'))
+    b.is_ascii_hexdigit()
 }
 
 // A digit after 0b.

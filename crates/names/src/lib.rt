@@ -18,7 +18,7 @@ use lexemes::Word;
 fn is_letter(b: u8) -> bool
     ensures { result ≡ is_letter b }
 {
-    ((b'A' <= b) & (b <= b'Z')) | ((b'a' <= b) & (b <= b'z'))
+    b.is_ascii_alphabetic()
 }
 
 // A letter, a digit, an underscore or a dollar sign. Letters are asked for first: most characters of names are such.

@@ -120,23 +120,15 @@ fn skip_white(text: &[u8], p: Position) -> Position
 pub fn line_at(text: &[u8], at: usize) -> bool
     ensures { result ≡ opens_line (chars_at text.now at) }
 {
-    if ahead::pair_at(text, at, b'/', b'/') {
-        return !bridge::is_at(text, at + 2, b'/');
-    }
-    false
+    ahead::pair_at(text, at, b'/', b'/') && !bridge::is_at(text, at + 2, b'/')
 }
 
 // Whether a block comment begins at a place.
 pub fn block_at(text: &[u8], at: usize) -> bool
     ensures { result ≡ opens_block (chars_at text.now at) }
 {
-    if ahead::pair_at(text, at, b'/', b'*') {
-        if bridge::is_at(text, at + 2, b'*') {
-            return bridge::is_at(text, at + 3, b'/');
-        }
-        return true;
-    }
-    false
+    ahead::pair_at(text, at, b'/', b'*')
+        && (!bridge::is_at(text, at + 2, b'*') || bridge::is_at(text, at + 3, b'/'))
 }
 
 // The comment at a position.
