@@ -1,16 +1,20 @@
 -- Laws of `Cut`: parts of one line, by byte places. Assumes nothing.
 use mathlib.Core.Path.{◌≡◌, refl, sym, ◌∙◌, ap, ap₂, subst}
 use mathlib.Core.Bool.{Bool, true, false}
+use mathlib.Core.Logic.{⊎_elim}
 use mathlib.Core.List.{List, [], ◌∷◌, ◌++◌, append_assoc}
-use Prim.Native.Nat.{ℕ, ◌+◌, ◌-◌, ◌≤◌, ◌<◌}
+use Prim.Native.Nat.{ℕ, zero, suc, ◌+◌, ◌-◌, ◌≤◌, ◌<◌}
 use lib.ListN.{length, get_or, take, drop}
 use lib.Seq.{slice, slice_empty, slice-cons, length-slice, length-take-le, take-add, drop_at, drop-append-le}
 use native.Mathlib.Omega.{arith}
+use native.Mathlib.Nat.{add-zero}
 use native.Mathlib.Numerals.{add-one}
 use Rattle.characters.specs.Utf8.{chars_at}
+use Rattle.characters.proofs.Choice.{le_or_lt}
 use Rattle.characters.proofs.Characters.{chars_ascii}
 use Rattle.rules.specs.Text.{Char, Text}
 use Rattle.rules.specs.Scan.{next, Part, run, one_char, nothing, takes, ◌and_then◌}
+use Rattle.runs.specs.Runs.{RunTo}
 use Rattle.bridge.specs.Bridge.{Low, Flat, Cut}
 use Rattle.bridge.proofs.Tests.{low_weak}
 use Rattle.bridge.proofs.Bytes.{byte_cons, byte_next, past_end}
@@ -93,14 +97,9 @@ cut_length s at to a x = rw (← x.bytes) (length-slice at to s x.inside)
 
 -- ── Runs ──
 
--- The loop of a run: whatever ends the run from here ends it from where it began.
-abbrev pub Going : (Text → Part) → List ℕ → ℕ → ℕ → Type 0
-Going rule s from at =
-    (at ≤ length s) × ((to : ℕ) → Cut s at (rule (chars_at s at)) to → Cut s from (rule (chars_at s from)) to)
-
 module _ (f : Char → Bool) (low : Low 11 f) (s : List ℕ) where
   -- A run goes on at a byte that passes, and stops at one that does not.
-  pub run_more : (at to : ℕ) → f (get_or s at 0) ≡ true → Cut s (at + 1) (run f (chars_at s (at + 1))) to
+  run_more : (at to : ℕ) → f (get_or s at 0) ≡ true → Cut s (at + 1) (run f (chars_at s (at + 1))) to
       → Cut s at (run f (chars_at s at)) to
   unfolding run
   run_more at to t k =
@@ -108,12 +107,26 @@ module _ (f : Char → Bool) (low : Low 11 f) (s : List ℕ) where
       let b = byte_cons f (low_weak f low) s at t in
       rw (b.1, t) (cut_cons s at (run f (chars_at s (at + 1))) to b.0 q.0 q.1 k)
 
-  pub run_stop : (at : ℕ) → at ≤ length s → f (get_or s at 0) ≡ false → Cut s at (run f (chars_at s at)) at
+  run_stop : (at : ℕ) → at ≤ length s → f (get_or s at 0) ≡ false → Cut s at (run f (chars_at s at)) at
   run_stop at h t =
       rw (run_none f (chars_at s at) (byte_next f (low_weak f low) s at ∙ t)) (cut_nothing s at h)
 
-  pub run_end : (at : ℕ) → length s ≤ at → at ≤ length s → Cut s at (run f (chars_at s at)) at
+  run_end : (at : ℕ) → length s ≤ at → at ≤ length s → Cut s at (run f (chars_at s at)) at
   run_end at l h = run_stop at h (past_end f (low_weak f low) s at l)
+
+  -- A walk past the bytes that pass, where each answer of its test is that of `f`.
+  module _ {A : ℕ → Bool → Type 0} (tells : (i : ℕ) (b : Bool) → A (get_or s i 0) b → b ≡ f (get_or s i 0)) {from to : ℕ} (r : RunTo A s from to) where
+    run_from : (n at : ℕ) → at + n ≡ to → from ≤ at → Cut s at (run f (chars_at s at)) to
+    run_from zero at e l =
+        let t : at ≡ to = sym (add-zero at) ∙ e in
+        subst (λ (n : ℕ). Cut s at (run f (chars_at s at)) n) t
+        (⊎_elim (λ k. run_end at k (omega (arith, r.inside)))
+        (λ k. run_stop at (omega (arith, r.inside)) (sym (tells at false (rw t (r.stop (omega arith)))))) (le_or_lt (length s) at))
+    run_from (suc n) at e l =
+        run_more at to (sym (tells at true (r.passed at l (omega arith)))) (run_from n (at + 1) (omega arith) (omega arith))
+
+    pub cut_run : Cut s from (run f (chars_at s from)) to
+    cut_run = run_from (to - from) from (omega (arith, r.forth)) (omega arith)
 
   -- One character that passes, or none.
   pub one_more : (at : ℕ) → f (get_or s at 0) ≡ true → Cut s at (one_char f (chars_at s at)) (at + 1)

@@ -19,6 +19,7 @@ use Rattle.characters.proofs.Valids.{not_bad, not_end, tail_at, lead_none}
 use Rattle.spans.specs.declared.Position.{Position}
 use Rattle.rules.specs.Text.{Char}
 use Rattle.rules.specs.Scan.{next, Part, run, takes}
+use Rattle.runs.specs.Runs.{RunTo}
 use Rattle.bridge.specs.Bridge.{Within, Reach, Stops, is_plain, PastRun, RunEnd}
 use Rattle.bridge.proofs.Cuts.{run_none}
 use Rattle.bridge.proofs.Reaches.{reach_nil, reach_join, next_char, advance_along}
@@ -172,15 +173,32 @@ pub mid_at_start : (f : Char → Bool) (s : List ℕ) (from : ℕ) → MidAt f s
 mid_at_start f s from p e w = (p.col, subst (λ (n : ℕ). Mid f s p n p.col) e (mid_start f s p w))
 
 module _ (x y z : ℕ) (stops : Stops x y z) (s : List ℕ) (from at : ℕ) (m : MidAt (is_plain x y z) s from at) where
-  pub mid_at_more : at < length s → is_plain x y z (get_or s at 0) ≡ true → MidAt (is_plain x y z) s from (at + 1)
+  mid_at_more : at < length s → is_plain x y z (get_or s at 0) ≡ true → MidAt (is_plain x y z) s from (at + 1)
   mid_at_more h g p e w = go (is_tail (get_or s at 0)) refl
     where
       go : (t : Bool) → is_tail (get_or s at 0) ≡ t → (col : ℕ) × Mid (is_plain x y z) s p (at + 1) col
       go true t = ((m p e w).0, mid_tail x y z stops s p at (m p e w).0 (m p e w).1 h t)
       go false t = ((m p e w).0 + 1, mid_char x y z stops s p at (m p e w).0 (m p e w).1 h t g)
 
-  pub mid_at_stop : at < length s → is_plain x y z (get_or s at 0) ≡ false → RunEnd (is_plain x y z) s from at
+  mid_at_stop : at < length s → is_plain x y z (get_or s at 0) ≡ false → RunEnd (is_plain x y z) s from at
   mid_at_stop h g p e w = let (col, k) = m p e w in (spot p at col, refl, mid_stop x y z stops s p at col k h g)
 
-  pub mid_at_end : length s ≤ at → RunEnd (is_plain x y z) s from at
+  mid_at_end : length s ≤ at → RunEnd (is_plain x y z) s from at
   mid_at_end l p e w = let (col, k) = m p e w in (spot p at col, refl, mid_end x y z stops s p at col k l)
+
+-- A walk past the bytes that pass, where each answer of its test is that of `is_plain`.
+module _ (x y z : ℕ) (stops : Stops x y z) (s : List ℕ) {A : ℕ → Bool → Type 0}
+    (tells : (i : ℕ) (b : Bool) → A (get_or s i 0) b → b ≡ is_plain x y z (get_or s i 0)) {from to : ℕ} (r : RunTo A s from to) where
+  mids : (n : ℕ) → from + n ≤ to → MidAt (is_plain x y z) s from (from + n)
+  mids zero l = subst (MidAt (is_plain x y z) s from) (sym (add-zero from)) (mid_at_start (is_plain x y z) s from)
+  mids (suc n) l =
+      let e : from + n + 1 ≡ from + suc n = omega arith in
+      subst (MidAt (is_plain x y z) s from) e
+      (mid_at_more x y z stops s from (from + n) (mids n (omega arith)) (omega (arith, r.inside)) (sym (tells (from + n) true (r.passed (from + n) (omega arith) (omega arith)))))
+
+  pub run_ends : RunEnd (is_plain x y z) s from to
+  run_ends =
+      let e : from + (to - from) ≡ to = omega (arith, r.forth) in
+      let m : MidAt (is_plain x y z) s from to = subst (MidAt (is_plain x y z) s from) e (mids (to - from) (omega arith)) in
+      ⊎_elim (λ l. mid_at_end x y z stops s from to m l)
+      (λ l. mid_at_stop x y z stops s from to m l (sym (tells to false (r.stop l)))) (le_or_lt (length s) to)

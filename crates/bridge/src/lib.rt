@@ -122,13 +122,6 @@ pub fn plain_end(text: &[u8], from: usize, x: u8, y: u8, z: u8) -> usize
     requires { Stops x y z }
     ensures { RunEnd (is_plain x y z) text.now from result }
 {
-    let mut end = from;
-    while end < text.len() {
-        let b = text[end];
-        if !is_plain(x, y, z, b) {
-            return end;
-        }
-        end += 1;
-    }
-    end
+    let inside = from.min(text.len());
+    runs::past(text, inside, |b| is_plain(x, y, z, b))
 }

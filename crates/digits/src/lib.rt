@@ -11,7 +11,7 @@ ghost use Rattle.bridge.specs.Bridge.{Cut};
 pub fn is_digit(b: u8) -> bool
     ensures { result ≡ is_digit b }
 {
-    (b'0' <= b) & (b <= b'9')
+    b.is_ascii_digit()
 }
 
 // A digit or an underscore.
@@ -25,7 +25,7 @@ fn is_grouped(b: u8) -> bool
 fn is_hex_part(b: u8) -> bool
     ensures { result ≡ hex_part b }
 {
-    ((b'0' <= b) & (b <= b'9')) | ((b'A' <= b) & (b <= b'F')) | ((b'a' <= b) & (b <= b'f'))
+    b.is_ascii_hexdigit()
 }
 
 // A digit after 0b.
@@ -40,14 +40,7 @@ pub fn past_digits(text: &[u8], from: usize) -> usize
     requires { from ≤ length text.now }
     ensures { Cut text.now from (run is_digit (chars_at text.now from)) result }
 {
-    let mut at = from;
-    while at < text.len() {
-        if !is_digit(text[at]) {
-            return at;
-        }
-        at += 1;
-    }
-    at
+    runs::past(text, from, is_digit)
 }
 
 // Past digits and underscores.
@@ -55,14 +48,7 @@ pub fn past_grouped(text: &[u8], from: usize) -> usize
     requires { from ≤ length text.now }
     ensures { Cut text.now from (run is_digit_or_underscore (chars_at text.now from)) result }
 {
-    let mut at = from;
-    while at < text.len() {
-        if !is_grouped(text[at]) {
-            return at;
-        }
-        at += 1;
-    }
-    at
+    runs::past(text, from, is_grouped)
 }
 
 // Past the digits after 0x.
@@ -70,14 +56,7 @@ pub fn past_hex(text: &[u8], from: usize) -> usize
     requires { from ≤ length text.now }
     ensures { Cut text.now from (run hex_part (chars_at text.now from)) result }
 {
-    let mut at = from;
-    while at < text.len() {
-        if !is_hex_part(text[at]) {
-            return at;
-        }
-        at += 1;
-    }
-    at
+    runs::past(text, from, is_hex_part)
 }
 
 // Past the digits after 0b.
@@ -85,12 +64,5 @@ pub fn past_binary(text: &[u8], from: usize) -> usize
     requires { from ≤ length text.now }
     ensures { Cut text.now from (run binary_part (chars_at text.now from)) result }
 {
-    let mut at = from;
-    while at < text.len() {
-        if !is_binary_part(text[at]) {
-            return at;
-        }
-        at += 1;
-    }
-    at
+    runs::past(text, from, is_binary_part)
 }

@@ -44,16 +44,6 @@ feed_out split c e g = rw (g, eq-eqb c LF e)
 ink_here : (s : List ℕ) (at : ℕ) → at < length s → is_ink (get_or s at 0) ≡ true → CharAt s at (get_or s at 0) (at + 1)
 ink_here s at h e = byte_here s at h (omega (arith, (ink_bounds (get_or s at 0) e).1))
 
--- ── The walk ──
-
-pub ink_start : (s : List ℕ) (from : ℕ) → from ≤ length s → (i : ℕ) → from ≤ i → i < from → is_ink (get_or s i 0) ≡ true
-ink_start s from h i a b = absurd (omega arith)
-
-pub ink_more : (s : List ℕ) (from at : ℕ) → ((i : ℕ) → from ≤ i → i < at → is_ink (get_or s i 0) ≡ true) → is_ink (get_or s at 0) ≡ true
-    → (i : ℕ) → from ≤ i → i < at + 1 → is_ink (get_or s i 0) ≡ true
-ink_more s from at f e i a b =
-    ⊎_elim (λ l. let g : i ≡ at = omega arith in subst (λ (j : ℕ). is_ink (get_or s j 0) ≡ true) (sym g) e) (λ l. f i a l) (le_or_lt at i)
-
 -- ── Behind it ──
 
 module _ (split : Bool) (s : List ℕ) (from : ℕ) where
@@ -88,7 +78,7 @@ module _ (split : Bool) (s : List ℕ) (from : ℕ) where
           let g : at + suc n ≡ q = omega arith in
           let f : end ≡ q = e ∙ ap (λ (b : Bool). if b then q else to) (lt-ltb at q l) in
           rw f (subst (λ (m : ℕ). Ending (in_line split) s from m m) g
-          (ink_passed n at to (omega (arith, i.inside)) (λ j a b. i.ink j a (omega arith)) k))
+          (ink_passed n at to (omega (arith, i.inside)) (λ j a b. sym (i.passed j a (omega arith))) k))
 
 -- ── Where no white space stands ──
 

@@ -19,7 +19,7 @@ use Rattle.characters.proofs.Decoding.{placed_code, decode_ascii}
 use Rattle.characters.proofs.Characters.{chars_code, chars_start}
 use Rattle.characters.proofs.Texts.{bytes_append, chars_slice}
 use Rattle.rules.specs.Text.{Char, Text, LF}
-use Rattle.rules.specs.Scan.{next, Part, takes, nothing, run}
+use Rattle.rules.specs.Scan.{Part, takes, nothing, run}
 use Rattle.rules.specs.Docs.{trim_end, trim, clean_line}
 use Rattle.doc_lines.specs.Lines.{CharAt, Skipped, is_star, in_line, is_blank, LineAt}
 use Rattle.doc_lines.specs.declared.Line.{Line}

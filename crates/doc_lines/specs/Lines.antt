@@ -7,6 +7,7 @@ use Rattle.characters.specs.Space.{is_white}
 use Rattle.characters.specs.Utf8.{width, chars_at, encode}
 use Rattle.rules.specs.Text.{Char, Text, ch, LF}
 use Rattle.rules.specs.Scan.{run}
+use Rattle.runs.specs.Runs.{RunTo}
 use Rattle.doc_lines.specs.declared.Next.{Next}
 use Rattle.doc_lines.specs.declared.Next.TheVariants as next
 use Rattle.doc_lines.specs.declared.Line.{Line}
@@ -44,11 +45,8 @@ unfoldable pub is_ink : Char → Bool
 is_ink c = within 0x21 0x7F c
 
 -- From one place to another, past such characters, up to the first other one.
-pub record Inked (s : List ℕ) (from to : ℕ) : Type 0 where
-  pub forth : from ≤ to
-  pub inside : to ≤ length s
-  pub ink : (i : ℕ) → from ≤ i → i < to → is_ink (get_or s i 0) ≡ true
-  pub stop : to < length s → is_ink (get_or s to 0) ≡ false
+abbrev pub Inked : List ℕ → ℕ → ℕ → Type 0
+Inked = RunTo (λ b r. r ≡ is_ink b)
 
 -- No white space of a line stands at a place: the part ends there, or such a character stands there, or a line feed that ends the
 -- line.

@@ -77,14 +77,7 @@ fn past_ink(part: &[u8], from: usize) -> usize
     requires { from ≤ length part.now }
     ensures { Inked part.now from result }
 {
-    let mut at = from;
-    while at < part.len() {
-        if !is_ink(part[at]) {
-            return at;
-        }
-        at += 1;
-    }
-    at
+    runs::past(part, from, is_ink)
 }
 
 // Whether no white space of a line stands at a place, as its first byte tells.

@@ -18,7 +18,7 @@ use lexemes::Word;
 fn is_letter(b: u8) -> bool
     ensures { result ≡ is_letter b }
 {
-    ((b'A' <= b) & (b <= b'Z')) | ((b'a' <= b) & (b <= b'z'))
+    b.is_ascii_alphabetic()
 }
 
 // A letter, a digit, an underscore or a dollar sign. Letters are asked for first: most characters of names are such.
@@ -36,14 +36,7 @@ pub fn name_end(text: &[u8], from: usize) -> usize
     requires { from ≤ length text.now }
     ensures { Cut text.now from (run is_ident_part (chars_at text.now from)) result }
 {
-    let mut at = from;
-    while at < text.len() {
-        if !is_part(text[at]) {
-            return at;
-        }
-        at += 1;
-    }
-    at
+    runs::past(text, from, is_part)
 }
 
 // The name or keyword at a place: its span ends at its last character.

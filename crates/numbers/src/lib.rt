@@ -24,10 +24,7 @@ pub struct Numeral {
 fn is_suffix(b: u8) -> bool
     ensures { result ≡ is_suffix b }
 {
-    match b {
-        b'L' | b'l' | b'f' | b'F' | b'd' | b'D' | b'u' | b'U' => true,
-        _ => false,
-    }
+    matches!(b, b'L' | b'l' | b'f' | b'F' | b'd' | b'D' | b'u' | b'U')
 }
 
 // Past one suffix letter.
@@ -112,10 +109,7 @@ fn zero_then(text: &[u8], at: usize, a: u8, b: u8) -> bool
     requires letter_2 { Letter b }
     ensures { result ≡ zero_then (a ∷ b ∷ []) (chars_at text.now at) }
 {
-    if !bridge::is_at(text, at, b'0') {
-        return false;
-    }
-    either_at(text, at + 1, a, b)
+    bridge::is_at(text, at, b'0') && either_at(text, at + 1, a, b)
 }
 
 // The number at a place where a digit stands.

@@ -1,11 +1,14 @@
 -- A part of a text between quotes, written run by run: the bytes that stand as they are, and then one that is escaped. Assumes nothing.
 use mathlib.Core.Path.{◌≡◌, refl, sym, ◌∙◌, ap, ap₂, subst}
-use mathlib.Core.Bool.{true, false}
+use mathlib.Core.Bool.{Bool, true, false, not}
 use mathlib.Core.List.{List, [], ◌∷◌, ◌++◌}
-use Prim.Native.Nat.{ℕ, ◌+◌, ◌*◌, ◌≤◌, ◌<◌}
+use Prim.Native.Nat.{ℕ, zero, suc, ◌+◌, ◌-◌, ◌*◌, ◌≤◌, ◌<◌}
+use native.Mathlib.Nat.{add-zero}
 use native.Mathlib.Numerals.{add-one}
 use native.Mathlib.Omega.{arith}
-use lib.ListN.{length, get_or}
+use lib.ListN.{length, get_or, take}
+use Rattle.std.proofs.lemmas.List.{length-take-le, get_or-take}
+use Rattle.runs.specs.Runs.{RunTo}
 use lib.Seq.{slice, slice_empty, slice-cons, length-slice}
 use Rattle.rules.specs.Text.{Char}
 use Rattle.output.specs.Writing.{Put}
@@ -26,12 +29,12 @@ part_more s from at h k =
 
 -- ── Past the bytes that stand as they are ──
 
-pub record Passing (q : Char) (s : List ℕ) (from to at : ℕ) : Type 0 where
-  pub forth : from ≤ at
-  pub inside : at ≤ to
-  pub bare : escapes q (slice from at s) ≡ slice from at s
+record Passing (q : Char) (s : List ℕ) (from to at : ℕ) : Type 0 where
+  forth : from ≤ at
+  inside : at ≤ to
+  bare : escapes q (slice from at s) ≡ slice from at s
 
-pub pass_start : (q : Char) (s : List ℕ) (from to : ℕ) → from ≤ to → Passing q s from to from
+pass_start : (q : Char) (s : List ℕ) (from to : ℕ) → from ≤ to → Passing q s from to from
 unfolding escapes
 pass_start q s from to h =
     record {
@@ -40,24 +43,51 @@ pass_start q s from to h =
       bare = rw (slice_empty from s);
     }
 
-module _ (q : Char) (s : List ℕ) (from to at : ℕ) (p : Passing q s from to at) where
-  pub pass_more : at < to → to ≤ length s → is_escaped q (get_or s at 0) ≡ false → Passing q s from to (at + 1)
-  pass_more h k e =
-      let f = part_more s from at p.forth (omega arith) in
+pass_more : (q : Char) (s : List ℕ) (from to at : ℕ) → Passing q s from to at → at < to → to ≤ length s
+    → is_escaped q (get_or s at 0) ≡ false → Passing q s from to (at + 1)
+pass_more q s from to at p h k e =
+    let f = part_more s from at p.forth (omega arith) in
+    record {
+      forth = omega (arith, p.forth);
+      inside = omega arith;
+      bare =
+          ap (escapes q) f
+          ∙ (escapes_append q (slice from at s) (get_or s at 0 ∷ [])
+          ∙ (ap₂ (λ (a b : List ℕ). a ++ b) p.bare (escapes_one q (get_or s at 0) ∙ bare_one q (get_or s at 0) e) ∙ sym f));
+    }
+
+not_of : (x b : Bool) → b ≡ not x → x ≡ not b
+not_of true b e = ap not (sym e)
+not_of false b e = ap not (sym e)
+
+-- A walk to `at` past the bytes before `to` that pass, where its test passes those that are not escaped.
+module _ (q : Char) (s : List ℕ) (from to at : ℕ) (h : to ≤ length s) {A : ℕ → Bool → Type 0}
+    (tells : (i : ℕ) (b : Bool) → A (get_or (take to s) i 0) b → b ≡ not (is_escaped q (get_or (take to s) i 0))) (r : RunTo A (take to s) from at) where
+  inside : at ≤ to
+  inside = omega (arith, r.inside, length-take-le to s h)
+
+  told : (i : ℕ) (b : Bool) → i < to → A (get_or (take to s) i 0) b → is_escaped q (get_or s i 0) ≡ not b
+  told i b l a =
+      ap (is_escaped q) (sym (get_or-take to s i 0 l)) ∙ (not_of (is_escaped q (get_or (take to s) i 0)) b (tells i b a))
+
+  passes : (n : ℕ) → from + n ≤ at → Passing q s from to (from + n)
+  passes zero l = subst (Passing q s from to) (sym (add-zero from)) (pass_start q s from to (omega (arith, inside, r.forth)))
+  passes (suc n) l =
+      let e : from + n + 1 ≡ from + suc n = omega arith in
+      let u : from + n < to = omega (arith, inside) in
+      subst (Passing q s from to) e
+      (pass_more q s from to (from + n) (passes n (omega arith)) u h (told (from + n) true u (r.passed (from + n) (omega arith) (omega arith))))
+
+  pub run_bare : PastBare q s from to at
+  run_bare =
+      let e : from + (at - from) ≡ at = omega (arith, r.forth) in
+      let p = subst (Passing q s from to) e (passes (at - from) (omega arith)) in
       record {
-        forth = omega (arith, p.forth);
-        inside = omega arith;
-        bare =
-            ap (escapes q) f
-            ∙ (escapes_append q (slice from at s) (get_or s at 0 ∷ [])
-            ∙ (ap₂ (λ (a b : List ℕ). a ++ b) p.bare (escapes_one q (get_or s at 0) ∙ bare_one q (get_or s at 0) e) ∙ sym f));
+        forth = p.forth;
+        inside = p.inside;
+        bare = p.bare;
+        stops = λ l. told at false l (r.stop (omega (arith, length-take-le to s h)));
       }
-
-  pub pass_stop : is_escaped q (get_or s at 0) ≡ true → PastBare q s from to at
-  pass_stop e = record { forth = p.forth; inside = p.inside; bare = p.bare; stops = λ _. e }
-
-  pub pass_end : to ≤ at → PastBare q s from to at
-  pass_end h = record { forth = p.forth; inside = p.inside; bare = p.bare; stops = λ l. absurd (omega arith) }
 
 -- ── The runs of a part ──
 

@@ -88,14 +88,7 @@ fn past_bare(quote: u8, text: &[u8], from: usize, to: usize) -> usize
     requires to_in_bounds { to ≤ length text.now }
     ensures { PastBare quote text.now from to result }
 {
-    let mut at = from;
-    while at < to {
-        if is_escaped(quote, text[at]) {
-            return at;
-        }
-        at += 1;
-    }
-    at
+    runs::past(&text[..to], from, |b| !is_escaped(quote, b))
 }
 
 // The bytes text[from..to] between quotes.

@@ -56,14 +56,7 @@ fn past_blanks(text: &[u8], from: usize) -> usize
     requires { from ≤ length text.now }
     ensures { Cut text.now from (run (exactly (ch " ")) (chars_at text.now from)) result }
 {
-    let mut at = from;
-    while at < text.len() {
-        if text[at] != b' ' {
-            return at;
-        }
-        at += 1;
-    }
-    at
+    runs::past(text, from, |b| b == b' ')
 }
 
 // Past the white space beyond ASCII at a position.
@@ -126,23 +119,15 @@ fn skip_white(text: &[u8], p: Position) -> Position
 pub fn line_at(text: &[u8], at: usize) -> bool
     ensures { result ≡ opens_line (chars_at text.now at) }
 {
-    if ahead::pair_at(text, at, b'/', b'/') {
-        return !bridge::is_at(text, at + 2, b'/');
-    }
-    false
+    ahead::pair_at(text, at, b'/', b'/') && !bridge::is_at(text, at + 2, b'/')
 }
 
 // Whether a block comment begins at a place.
 pub fn block_at(text: &[u8], at: usize) -> bool
     ensures { result ≡ opens_block (chars_at text.now at) }
 {
-    if ahead::pair_at(text, at, b'/', b'*') {
-        if bridge::is_at(text, at + 2, b'*') {
-            return bridge::is_at(text, at + 3, b'/');
-        }
-        return true;
-    }
-    false
+    ahead::pair_at(text, at, b'/', b'*')
+        && (!bridge::is_at(text, at + 2, b'*') || bridge::is_at(text, at + 3, b'/'))
 }
 
 // The comment at a position.

@@ -10,10 +10,7 @@ pub fn pair_at(text: &[u8], at: usize, a: u8, b: u8) -> bool
     requires letter_2 { Letter b }
     ensures { result ≡ starts_with (a ∷ b ∷ []) (chars_at text.now at) }
 {
-    if bridge::is_at(text, at, a) {
-        return bridge::is_at(text, at + 1, b);
-    }
-    false
+    bridge::is_at(text, at, a) && bridge::is_at(text, at + 1, b)
 }
 
 // Whether a, b and then c stands at a place.
@@ -23,8 +20,5 @@ pub fn three_at(text: &[u8], at: usize, a: u8, b: u8, c: u8) -> bool
     requires letter_3 { Letter c }
     ensures { result ≡ starts_with (a ∷ b ∷ c ∷ []) (chars_at text.now at) }
 {
-    if bridge::is_at(text, at, a) {
-        return pair_at(text, at + 1, b, c);
-    }
-    false
+    bridge::is_at(text, at, a) && pair_at(text, at + 1, b, c)
 }

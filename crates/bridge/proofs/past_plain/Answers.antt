@@ -2,7 +2,6 @@
 use mathlib.Core.Path.{sym, ◌∙◌, subst}
 use Prim.Native.Nat.{◌+◌}
 use native.Mathlib.Omega.{arith}
-use Rattle.bridge.specs.Bridge.{is_plain}
 use Rattle.bridge.proofs.Plains.{Mid, mid_start, mid_char, mid_tail, mid_stop, mid_end}
 use Rattle.bridge.proofs.past_plain.Goals as goal
 use Rattle.bridge.proofs.past_plain.Goals.{then-not-is_tail, else-not-is_tail}

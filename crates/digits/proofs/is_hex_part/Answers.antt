@@ -1,5 +1,4 @@
 -- `is_hex_part` meets its contract. Assumes nothing.
-use mathlib.Core.Path.{refl}
 use Rattle.characters.specs.Choice.{within}
 use Rattle.rules.specs.Text.{is_digit, is_hex_digit}
 use Rattle.rules.specs.Numbers.{hex_part}
@@ -7,4 +6,4 @@ use Rattle.digits.proofs.is_hex_part.Goals as goal
 
 pub returns : goal.returns
 unfolding hex_part is_hex_digit is_digit within
-returns c = refl
+returns c = c.is_ascii_hexdigit.ensures.value

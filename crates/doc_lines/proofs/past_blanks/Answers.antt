@@ -2,7 +2,7 @@
 use mathlib.Core.Path.{sym, ◌∙◌, subst}
 use native.Mathlib.Omega.{arith}
 use Rattle.characters.proofs.Widths.{width_bounds}
-use Rattle.doc_lines.specs.Lines.{NextAt, is_blank}
+use Rattle.doc_lines.specs.Lines.{NextAt}
 use Rattle.doc_lines.proofs.Places.{skip_start, skip_end, skip_stop, skip_more}
 use Rattle.doc_lines.proofs.Inks.{stops_blank}
 use Rattle.doc_lines.proofs.past_blanks.Goals as goal

@@ -4,10 +4,11 @@ use mathlib.Core.List.{[], ◌∷◌}
 use Rattle.numbers.proofs.Numbers.{zero_none, zero_next}
 use Rattle.numbers.proofs.zero_then.Goals as goal
 
-pub returns-then-not-is_at : goal.returns-then-not-is_at
-returns-then-not-is_at c = sym (zero_none _ _ _ (sym c.is_at.ensures ∙ c.if-not-is_at.true))
-
-pub returns : goal.returns
-returns c =
+pub returns-then-is_at : goal.returns-then-is_at
+returns-then-is_at c =
     c.either_at.ensures
-    ∙ sym (zero_next c.args.text.now c.args.at (c.args.a ∷ c.args.b ∷ []) (sym c.is_at.ensures ∙ c.if-not-is_at.false))
+    ∙ sym (zero_next c.args.text.now c.args.at (c.args.a ∷ c.args.b ∷ []) (sym c.is_at.ensures ∙ c.if-is_at.true))
+
+pub returns-else-is_at : goal.returns-else-is_at
+returns-else-is_at c =
+    c.if-is_at.false ∙ sym (zero_none _ _ _ (sym c.is_at.ensures ∙ c.if-is_at.false))

@@ -1,4 +1,4 @@
--- `walks::skip::line_at` meets its contract. The two slashes, and then the third. Assumes nothing.
+-- `line_at` meets its contract. The two slashes, and then the third. Assumes nothing.
 use mathlib.Core.Path.{sym, ◌∙◌}
 use Rattle.skipping.proofs.Slashes.{slash, line_yes, line_no}
 use Rattle.walks.proofs.Starts.{pair_there}
@@ -13,6 +13,6 @@ pub returns-then-pair_at : goal.returns-then-pair_at
 returns-then-pair_at c =
     line_yes c.args.text.now c.args.at _ (sym c.pair_at.ensures ∙ c.if-pair_at.true) c.is_at.ensures
 
-pub returns : goal.returns
-returns c =
-    line_no c.args.text.now c.args.at (sym c.pair_at.ensures ∙ c.if-pair_at.false)
+pub returns-else-pair_at : goal.returns-else-pair_at
+returns-else-pair_at c =
+    c.if-pair_at.false ∙ line_no c.args.text.now c.args.at (sym c.pair_at.ensures ∙ c.if-pair_at.false)

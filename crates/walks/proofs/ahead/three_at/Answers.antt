@@ -13,6 +13,7 @@ pub returns-then-is_at : goal.returns-then-is_at
 returns-then-is_at c =
     c.pair_at.ensures ∙ sym (starts_yes c.args.text.now c.args.at c.args.a c.requires.letter (c.args.b ∷ c.args.c ∷ []) (sym c.is_at.ensures ∙ c.if-is_at.true))
 
-pub returns : goal.returns
-returns c =
-    sym (starts_no c.args.text.now c.args.at c.args.a c.requires.letter _ (sym c.is_at.ensures ∙ c.if-is_at.false))
+pub returns-else-is_at : goal.returns-else-is_at
+returns-else-is_at c =
+    c.if-is_at.false
+    ∙ sym (starts_no c.args.text.now c.args.at c.args.a c.requires.letter _ (sym c.is_at.ensures ∙ c.if-is_at.false))

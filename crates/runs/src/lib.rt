@@ -1,0 +1,17 @@
+// Where a run of bytes that pass a test ends: one walk for all such tests.
+#![tactic(auto)]
+
+ghost use Rattle.std.specs.Prelude.{◌≤◌, length};
+ghost use Rattle.runs.specs.Runs.{RunTo};
+
+// The place after the bytes from a place on that pass a test.
+pub fn past<F: Fn(u8) -> bool>(text: &[u8], from: usize, test: F) -> usize
+    requires from_in_bounds { from ≤ length text.now }
+    requires callable { F.IsAlwaysCallable test }
+    ensures { RunTo (F.post test) text.now from result }
+{
+    match text[from..].iter().position(|b| !test(*b)) {
+        Some(n) => from + n,
+        None => text.len(),
+    }
+}
