@@ -4,6 +4,7 @@ use mathlib.Core.Path.{◌≡◌, refl, sym, ◌∙◌, ap, subst}
 use mathlib.Core.Bool.{Bool, true, false}
 use mathlib.Core.List.{List, [], ◌∷◌, ◌++◌, map}
 use Prim.Native.Nat.{ℕ, zero, suc, ◌+◌, ◌-◌, ◌≤◌, ◌<◌}
+use native.Mathlib.Nat.{sub-zero}
 use native.Mathlib.Omega.{arith}
 use borrow.Author.Tests.{eqb-true, eqb-false, ne_eqb, eq-eqb}
 use lib.ListN.{length, replicate, length-replicate, length-append}
@@ -64,29 +65,23 @@ empty_slice s from to h k =
 
 -- ── Line feeds ──
 
--- Line feeds still to be written.
-pub record Feeding (old b : List ℕ) (at n p k : ℕ) : Type 0 where
-  pub writing : Writing old b at p (replicate k LF) (replicate n LF)
-  pub places : p + k ≡ at + n
+-- None of `n` is written.
+pub feed_start : (b : List ℕ) (at n : ℕ) → Writing b b at at (replicate (n - 0) LF) (replicate n LF)
+feed_start b at n = rw (sub-zero n) (write_start b at (replicate n LF))
 
-pub feed_start : (b : List ℕ) (at n : ℕ) → Feeding b b at n at n
-feed_start b at n = record { writing = write_start b at (replicate n LF); places = refl }
+-- One more of `n`, where `i` are written.
+pub feed_more : (old b c : List ℕ) (at n i p r : ℕ) → i < n → Writing old b at p (replicate (n - i) LF) (replicate n LF) → Put b c p (LF ∷ []) r
+    → Writing old c at r (replicate (n - (i + 1)) LF) (replicate n LF)
+feed_more old b c at n i p r h w q =
+    let e : n - i ≡ suc (n - (i + 1)) = omega arith in
+    write_more old b c at p r (LF ∷ []) (replicate (n - (i + 1)) LF) (replicate n LF)
+    (subst (λ (m : ℕ). Writing old b at p (replicate m LF) (replicate n LF)) e w) q
 
-module _ (old b : List ℕ) (at n p k : ℕ) (f : Feeding old b at n p k) where
-  pub feed_more : (c : List ℕ) (r : ℕ) → 0 < k → Put b c p (LF ∷ []) r → Feeding old c at n r (k - 1)
-  feed_more c r h q =
-      let e : k ≡ suc (k - 1) = omega arith in
-      record {
-        writing =
-            write_more old b c at p r (LF ∷ []) (replicate (k - 1) LF) (replicate n LF)
-            (subst (λ (m : ℕ). Writing old b at p (replicate m LF) (replicate n LF)) e f.writing) q;
-        places = omega (arith, f.places, q.place);
-      }
-
-  pub feed_end : k ≤ 0 → Put old b at (replicate n LF) p
-  feed_end h =
-      let e : k ≡ 0 = omega arith in
-      write_end old b at p (replicate n LF) (subst (λ (m : ℕ). Writing old b at p (replicate m LF) (replicate n LF)) e f.writing)
+-- All are written.
+pub feed_end : (old b : List ℕ) (at n i p : ℕ) → n ≤ i → Writing old b at p (replicate (n - i) LF) (replicate n LF) → Put old b at (replicate n LF) p
+feed_end old b at n i p h w =
+    let e : n - i ≡ 0 = omega arith in
+    write_end old b at p (replicate n LF) (subst (λ (m : ℕ). Writing old b at p (replicate m LF) (replicate n LF)) e w)
 
 -- The line feeds that wait after a line.
 module _ (k from to : ℕ) where

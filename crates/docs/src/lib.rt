@@ -19,10 +19,8 @@ fn put_feeds(texts: &mut [u8], at: usize, n: usize) -> usize
     ensures { Put texts.old texts.new at (replicate n LF) result }
 {
     let mut place = at;
-    let mut left = n;
-    while 0 < left {
+    for _ in 0..n {
         place = output::put_byte(texts, place, b'\n');
-        left -= 1;
     }
     place
 }
@@ -35,13 +33,11 @@ fn put_line(part: &[u8], l: Line, feeds: usize, texts: &mut [u8], at: usize) -> 
     requires feeds_bound { at + feeds ≤ PLACES }
     ensures { Put texts.old texts.new at (line_text feeds (slice l.from l.to part.now)) result }
 {
-    let from = l.from;
-    let to = l.to;
-    if from == to {
+    if l.from == l.to {
         return at;
     }
     let place = put_feeds(texts, at, feeds);
-    output::put_part(part, from, to, texts, place)
+    output::put_bytes(&part[l.from..l.to], texts, place)
 }
 
 // The line feeds that wait after a line.
@@ -65,9 +61,7 @@ pub fn trim_text(part: &[u8], texts: &mut [u8], at: usize) -> usize
 {
     let start = doc_lines::past_blanks(part, 0, false);
     let l = doc_lines::trimmed_line(part, start, false);
-    let from = l.from;
-    let to = l.to;
-    output::put_part(part, from, to, texts, at)
+    output::put_bytes(&part[l.from..l.to], texts, at)
 }
 
 // The text of a block: the part cleaned. The result is the place after it.

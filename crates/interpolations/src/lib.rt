@@ -81,7 +81,7 @@ pub fn interpolation(
     let c = past_interpolation(text, p);
     let q = c.at;
     let found = c.found;
-    let part = output::put_part(text, p.offset, q.offset, texts, used_texts);
+    let part = output::put_bytes(&text[p.offset..q.offset], texts, used_texts);
     let end = put_brace(found, texts, part);
     let noted = error::put_unclosed(errors, used_errors, found, UNTERMINATED_INTERPOLATION, q, q);
     let token = TokenRecord {

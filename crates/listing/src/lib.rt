@@ -7,9 +7,9 @@ ghost use Rattle.listing.specs.Listing.{listing, LONGEST};
 ghost use Rattle.listing.specs.Buffers.{TOKENS, TEXTS, ERRORS};
 
 use lexer::Answer;
-use listing_fields::put_word;
 use listing_lines::put_refused;
 use listing_reading::put_answer;
+use output::put_bytes;
 use records::fields::{LONGEST_ERROR, LONGEST_TOKEN};
 
 // The bytes that a script may have at most to be listed.
@@ -51,7 +51,7 @@ pub fn list(script: &[u8], buf: &mut [u8]) -> usize
     ensures upper_bound { result ≤ LONGEST }
 {
     if LISTED < script.len() {
-        return put_word(b"long\n", buf, 0);
+        return put_bytes(b"long\n", buf, 0);
     }
     let mut tokens = token_buffer();
     let mut texts = text_buffer();

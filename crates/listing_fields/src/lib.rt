@@ -16,15 +16,6 @@ const SIXTEEN: u8 = 16;
 
 const DIGITS: usize = 20;
 
-// Bytes as they are.
-pub fn put_word(word: &[u8], buf: &mut [u8], at: usize) -> usize
-    requires word_len_bound { length word.now ≤ PLACES }
-    requires at_bound { at ≤ PLACES }
-    ensures { Put buf.old buf.new at word.now result }
-{
-    output::put_part(word, 0, word.len(), buf, at)
-}
-
 // A number in decimal.
 pub fn put_field(x: u64, buf: &mut [u8], at: usize) -> usize
     requires { Room at (field x) }
@@ -33,7 +24,7 @@ pub fn put_field(x: u64, buf: &mut [u8], at: usize) -> usize
     let mut digits = [0u8; DIGITS];
     let n = io::decimal(x, &mut digits);
     let p = output::put_byte(buf, at, b' ');
-    put_word(&digits[..n], buf, p)
+    output::put_bytes(&digits[..n], buf, p)
 }
 
 // The six fields of a span.
@@ -70,11 +61,9 @@ fn put_hex(text: &[u8], buf: &mut [u8], at: usize) -> usize
     requires { Room at (hex_of text.now) }
     ensures { Put buf.old buf.new at (hex_of text.now) result }
 {
-    let mut i = 0;
     let mut p = at;
-    while i < text.len() {
-        p = put_hex_byte(text[i], buf, p);
-        i += 1;
+    for &b in text {
+        p = put_hex_byte(b, buf, p);
     }
     p
 }
@@ -84,8 +73,8 @@ pub fn put_text(text: &[u8], buf: &mut [u8], at: usize) -> usize
     requires { Room at (text_field text.now) }
     ensures { Put buf.old buf.new at (text_field text.now) result }
 {
-    if text.len() == 0 {
-        return put_word(b" -", buf, at);
+    if text.is_empty() {
+        return output::put_bytes(b" -", buf, at);
     }
     let p = output::put_byte(buf, at, b' ');
     put_hex(text, buf, p)

@@ -8,8 +8,8 @@ ghost use Rattle.listing_fields.specs.Room.{Room};
 ghost use Rattle.listing_lines.specs.Lines.{head_of, token_line, error_line, closed_line, refused_line};
 ghost use Rattle.listing_lines.specs.Words.{token};
 
-use listing_fields::{put_field, put_word};
-use output::put_byte;
+use listing_fields::put_field;
+use output::{put_byte, put_bytes};
 use records::answers::ErrorRecord;
 use records::kinds;
 use spans::Span;
@@ -62,16 +62,16 @@ pub fn put_closed(closed: bool, buf: &mut [u8], at: usize) -> usize
     ensures { Put buf.old buf.new at (closed_line closed) result }
 {
     if closed {
-        return put_word(b"closed\n", buf, at);
+        return put_bytes(b"closed\n", buf, at);
     }
-    put_word(b"open\n", buf, at)
+    put_bytes(b"open\n", buf, at)
 }
 
 // The line of a refusal.
 pub fn put_refused(number: u64, figure: u64, buf: &mut [u8]) -> usize
     ensures { Put buf.old buf.new 0 (refused_line number figure) result }
 {
-    let p = put_word(b"refused", buf, 0);
+    let p = put_bytes(b"refused", buf, 0);
     let q = put_field(number, buf, p);
     let r = put_field(figure, buf, q);
     put_byte(buf, r, b'\n')

@@ -14,9 +14,6 @@ use rules::error_kinds;
 use spans::Position;
 use walks::{error, walk};
 
-// The bytes of `${...}`, the text of every `${..}` outside of strings.
-const BRACES_BYTES: usize = 6;
-
 // A token whose text was written: the position behind it, the places after its text and its errors, and whether the text ran out
 // in it.
 #[derive(Clone, Copy)]
@@ -84,7 +81,7 @@ pub fn raw(
     let at = walk::behind_mark(c, 3);
     let from = inner.offset;
     let to = stop.offset;
-    let texts_end = output::put_part(text, from, to, texts, used_texts);
+    let texts_end = output::put_bytes(&text[from..to], texts, used_texts);
     let errors_end = error::put_unclosed(
         errors,
         used_errors,
@@ -111,7 +108,7 @@ pub fn braces(text: &[u8], p: Position, texts: &mut [u8], used: usize) -> Filled
     let c = walk::to_byte(text, bridge::along(p, 2), b'}');
     let at = walk::behind_mark(c, 1);
     let found = c.found;
-    let end = output::put_part(b"${...}", 0, BRACES_BYTES, texts, used);
+    let end = output::put_bytes(b"${...}", texts, used);
     Filled {
         at,
         texts: end,

@@ -5,7 +5,7 @@ use mathlib.Core.List.{List, [], ◌∷◌, ◌++◌}
 use Prim.Native.Nat.{ℕ, suc, ◌+◌, ◌-◌, ◌≤◌, ◌<◌, min}
 use native.Mathlib.Nat.{add-zero}
 use native.Mathlib.Omega.{arith}
-use lib.ListN.{length, set, take, drop, length-append, take-append-drop}
+use lib.ListN.{length, set, take, drop, length-append, length-take, length-drop, take-append-drop}
 use lib.Seq.{sets, sets-eq, length-sets, set_out, slice}
 use lib.Seq.{take_all, take_at, drop_at, take-add, drop-append-le, length-take-le}
 use borrow.Rule.Slice.PartMut.{put_mid}
@@ -88,6 +88,9 @@ part_put old vs mid at k n h e f g =
 -- The part of a text that the code lends is the slice that a rule names.
 pub put_slice : (s : List ℕ) (from to : ℕ) {old new : List ℕ} {at r : ℕ} → Put old new at (take (to - from) (drop from s)) r → Put old new at (slice from to s) r
 put_slice s from to p = rw (← between_is s from to) p
+
+pub part_bound : (s : List ℕ) (from to n : ℕ) → length s ≤ n → length (take (to - from) (drop from s)) ≤ n
+part_bound s from to n h = omega (arith, length-take (to - from) (drop from s), length-drop from s)
 
 -- The bytes that were written at a buffer's front, read from it.
 pub front_part : (l vs : List ℕ) (n : ℕ) → length vs ≡ n → n ≤ length l → take n (sets l 0 vs) ≡ vs

@@ -48,7 +48,7 @@ pub fn put_made(
 {
     match made {
         Made::Nothing => at,
-        Made::Own => output::put_part(text, from, to, texts, at),
+        Made::Own => output::put_bytes(&text[from..to], texts, at),
         Made::Char(c) => output::put_char(c, texts, at),
     }
 }
@@ -104,7 +104,7 @@ fn put_simple(text: &[u8], p: Position, texts: &mut [u8], used_texts: usize) -> 
         let from = at.offset;
         let q = bridge::past_plain(text, at, b'"', b'$', b'\\');
         let to = q.offset;
-        let part = output::put_part(text, from, to, texts, made);
+        let part = output::put_bytes(&text[from..to], texts, made);
         let w = put_escapes(text, q, texts, part);
         at = w.at;
         made = w.texts;

@@ -3,7 +3,7 @@ use Rattle.listing.proofs.Whole.{long_listed, read_room, read_listed, refused_li
 use Rattle.listing.proofs.list.Goals as goal
 
 pub returns-then-script-gt-LISTED : goal.returns-then-script-gt-LISTED
-returns-then-script-gt-LISTED c = let q = long_listed _ _ _ _ c.if-script-gt-LISTED.true c.put_word.ensures in record { put = q.0; upper_bound = q.1 }
+returns-then-script-gt-LISTED c = let q = long_listed _ _ _ _ c.if-script-gt-LISTED.true c.put_bytes.ensures in record { put = q.0; upper_bound = q.1 }
 
 pub put_answer-requires : goal.put_answer-requires
 put_answer-requires c = let q = read_room _ _ _ _ _ _ _ _ c.tokenize-a.ensures c.if-script-gt-LISTED.false _ c.in-Done.is in record { errors_in_bounds = q.0; room = q.1 }

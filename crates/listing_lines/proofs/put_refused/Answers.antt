@@ -7,16 +7,16 @@ use Rattle.listing_lines.proofs.put_refused.Goals as goal
 
 pub put_field-q-requires : goal.put_field-q-requires
 unfolding refused_line
-put_field-q-requires c = room_then _ _ _ _ _ _ (room_front _ _ _ (room_front _ _ _ (refused_room c.args.number c.args.figure))) c.put_word-p.ensures
+put_field-q-requires c = room_then _ _ _ _ _ _ (room_front _ _ _ (room_front _ _ _ (refused_room c.args.number c.args.figure))) c.put_bytes-p.ensures
 
 pub put_field-r-requires : goal.put_field-r-requires
 unfolding refused_line
-put_field-r-requires c = room_then _ _ _ _ _ _ (room_front _ _ _ (refused_room c.args.number c.args.figure)) (put_then _ _ _ _ _ _ _ _ c.put_word-p.ensures c.put_field-q.ensures)
+put_field-r-requires c = room_then _ _ _ _ _ _ (room_front _ _ _ (refused_room c.args.number c.args.figure)) (put_then _ _ _ _ _ _ _ _ c.put_bytes-p.ensures c.put_field-q.ensures)
 
 pub put_byte-requires : goal.put_byte-requires
 unfolding refused_line
-put_byte-requires c = room_place _ _ (room_then _ _ _ _ _ _ (refused_room c.args.number c.args.figure) (put_then _ _ _ _ _ _ _ _ (put_then _ _ _ _ _ _ _ _ c.put_word-p.ensures c.put_field-q.ensures) c.put_field-r.ensures))
+put_byte-requires c = room_place _ _ (room_then _ _ _ _ _ _ (refused_room c.args.number c.args.figure) (put_then _ _ _ _ _ _ _ _ (put_then _ _ _ _ _ _ _ _ c.put_bytes-p.ensures c.put_field-q.ensures) c.put_field-r.ensures))
 
 pub returns : goal.returns
 unfolding refused_line
-returns c = put_then _ _ _ _ _ _ _ _ (put_then _ _ _ _ _ _ _ _ (put_then _ _ _ _ _ _ _ _ c.put_word-p.ensures c.put_field-q.ensures) c.put_field-r.ensures) c.put_byte.ensures
+returns c = put_then _ _ _ _ _ _ _ _ (put_then _ _ _ _ _ _ _ _ (put_then _ _ _ _ _ _ _ _ c.put_bytes-p.ensures c.put_field-q.ensures) c.put_field-r.ensures) c.put_byte.ensures

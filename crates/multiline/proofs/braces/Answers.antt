@@ -12,4 +12,4 @@ to_byte-c-requires c =
 pub returns : goal.returns
 returns c =
     let r = begin_reach dollar_brace c.args.text.now c.args.p _ (omega arith) c.requires.within c.requires.offset_value c.along.ensures in
-    braces_at c.args.text.now c.args.p _ _ _ _ _ _ _ c.requires.offset_value r c.to_byte-c.ensures c.behind_mark-at.ensures c.put_part-end.ensures
+    braces_at c.args.text.now c.args.p _ _ _ _ _ _ _ c.requires.offset_value r c.to_byte-c.ensures c.behind_mark-at.ensures c.put_bytes-end.ensures

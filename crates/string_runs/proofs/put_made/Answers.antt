@@ -1,5 +1,5 @@
 use mathlib.Core.Path.{subst}
-use Rattle.output.proofs.Buffers.{put_none}
+use Rattle.output.proofs.Buffers.{put_none, put_slice}
 use Rattle.string_units.specs.Units.{IsChar}
 use Rattle.string_runs.proofs.RunLaws.{made_put}
 use Rattle.string_runs.proofs.put_made.Goals as goal
@@ -14,7 +14,7 @@ returns-in-Nothing c =
 
 pub returns-in-Own : goal.returns-in-Own
 returns-in-Own c =
-    made_put _ _ c.args.text.now c.args.from c.args.to _ _ c.args.made _ c.in-Own.is c.put_part.ensures
+    made_put _ _ c.args.text.now c.args.from c.args.to _ _ c.args.made _ c.in-Own.is (put_slice c.args.text.now c.args.from c.args.to c.put_bytes.ensures)
 
 pub returns-in-Char : goal.returns-in-Char
 returns-in-Char c =

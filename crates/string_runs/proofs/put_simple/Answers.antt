@@ -1,4 +1,4 @@
-use Rattle.output.proofs.Buffers.{put_length}
+use Rattle.output.proofs.Buffers.{put_length, put_slice, part_bound}
 use Rattle.string_runs.proofs.Rows.{units_plain, wrote_start, wrote_few, wrote_more, wrote_join}
 use native.Mathlib.Omega.{arith}
 use Rattle.string_runs.proofs.put_simple.Goals as goal
@@ -11,31 +11,31 @@ pub past_plain-q-requires : goal.past_plain-q-requires
 past_plain-q-requires c =
     record { within = c.loop-at.invariant.0.units.reach.within; stops = record { first = omega arith; second = omega arith; third = omega arith } }
 
-pub put_part-part-requires : goal.put_part-part-requires
-put_part-part-requires c =
+pub put_bytes-part-requires : goal.put_bytes-part-requires
+put_bytes-part-requires c =
     let u = units_plain _ _ _ c.loop-at.invariant.0.units.reach.within c.past_plain-q.ensures in
     let w = u.reach.within in
     let f = wrote_few _ _ _ _ _ _ _ c.loop-at.invariant.0 in
-    record { from_le_to = omega (arith, u.small); to_in_bounds = w.inside; to_bound = omega (arith, w.inside, w.size); at_bound = omega (arith, f.0, f.1, c.loop-at.invariant.1) }
+    record { part_bound = part_bound c.args.text.now c.loop-at.at.offset c.past_plain-q.result.offset _ (omega (arith, w.size)); at_bound = omega (arith, f.0, f.1, c.loop-at.invariant.1) }
 
 pub put_escapes-w-requires : goal.put_escapes-w-requires
 put_escapes-w-requires c =
     let u = units_plain _ _ _ c.loop-at.invariant.0.units.reach.within c.past_plain-q.ensures in
-    let y = wrote_more _ _ _ _ _ _ _ c.loop-at.invariant.0 _ _ _ _ u c.put_part-part.ensures in
+    let y = wrote_more _ _ _ _ _ _ _ c.loop-at.invariant.0 _ _ _ _ u (put_slice c.args.text.now c.loop-at.at.offset c.past_plain-q.result.offset c.put_bytes-part.ensures) in
     let f = wrote_few _ _ _ _ _ _ _ y in
     record { within = y.units.reach.within; used_texts_bound = omega (arith, f.0, f.1, c.loop-at.invariant.1) }
 
 pub shape_of-texts-then-at-to : goal.shape_of-texts-then-at-to
 shape_of-texts-then-at-to c =
     let u = units_plain _ _ _ c.loop-at.invariant.0.units.reach.within c.past_plain-q.ensures in
-    let y = wrote_more _ _ _ _ _ _ _ c.loop-at.invariant.0 _ _ _ _ u c.put_part-part.ensures in
+    let y = wrote_more _ _ _ _ _ _ _ c.loop-at.invariant.0 _ _ _ _ u (put_slice c.args.text.now c.loop-at.at.offset c.past_plain-q.result.offset c.put_bytes-part.ensures) in
     let z = wrote_join _ _ _ _ _ _ _ y _ _ _ c.put_escapes-w.ensures in
     put_length _ _ _ _ _ z.made
 
 pub returns-then-at-to : goal.returns-then-at-to
 returns-then-at-to c =
     let u = units_plain _ _ _ c.loop-at.invariant.0.units.reach.within c.past_plain-q.ensures in
-    let y = wrote_more _ _ _ _ _ _ _ c.loop-at.invariant.0 _ _ _ _ u c.put_part-part.ensures in
+    let y = wrote_more _ _ _ _ _ _ _ c.loop-at.invariant.0 _ _ _ _ u (put_slice c.args.text.now c.loop-at.at.offset c.past_plain-q.result.offset c.put_bytes-part.ensures) in
     wrote_join _ _ _ _ _ _ _ y _ _ _ c.put_escapes-w.ensures
 
 pub loop-at-smaller : goal.loop-at-smaller
@@ -46,5 +46,5 @@ loop-at-smaller c =
 pub loop-at-preserved : goal.loop-at-preserved
 loop-at-preserved c =
     let u = units_plain _ _ _ c.loop-at.invariant.0.units.reach.within c.past_plain-q.ensures in
-    let y = wrote_more _ _ _ _ _ _ _ c.loop-at.invariant.0 _ _ _ _ u c.put_part-part.ensures in
+    let y = wrote_more _ _ _ _ _ _ _ c.loop-at.invariant.0 _ _ _ _ u (put_slice c.args.text.now c.loop-at.at.offset c.past_plain-q.result.offset c.put_bytes-part.ensures) in
     (wrote_join _ _ _ _ _ _ _ y _ _ _ c.put_escapes-w.ensures, c.loop-at.invariant.1)
