@@ -27,16 +27,15 @@ name_some s at to h x =
     omega (arith, cut_length s at to (run is_ident_part (chars_at s at)) x)
 
 -- A lent part of a text.
-part_slice : (s : List ℕ) (at to : ℕ) → at ≤ to → take (to - at) (drop at s) ≡ slice at to s
+pub part_slice : (s : List ℕ) (at to : ℕ) → at ≤ to → take (to - at) (drop at s) ≡ slice at to s
 part_slice s at to h = let e : at + (to - at) ≡ to = omega arith in sym (drop-take at (to - at) s) ∙ rw e
 
 pub name_word : (s : List ℕ) (at to k : ℕ) → next is_ident_part (chars_at s at) ≡ true
-    → Cut s at (run is_ident_part (chars_at s at)) to → k ≡ lookup_keyword (take (to - at) (drop at s))
+    → Cut s at (run is_ident_part (chars_at s at)) to → k ≡ lookup_keyword (slice at to s)
     → WordAt s at (parse_identifier_or_keyword (chars_at s at)) k (to - at) (to - at - 1)
 unfolding parse_identifier_or_keyword
 name_word s at to k h x e =
     let a = run is_ident_part (chars_at s at) in
-    let l = name_some s at to h x in
-    let q : k ≡ lookup_keyword a.taken = e ∙ ap lookup_keyword (part_slice s at to (omega arith) ∙ x.bytes) in
+    let q : k ≡ lookup_keyword a.taken = e ∙ ap lookup_keyword x.bytes in
     let w = word_last s at to (lookup_keyword a.taken) a (kind_plain a.taken) (name_some s at to h x) x in
     subst (λ (m : ℕ). WordAt s at (word_token (lookup_keyword a.taken) a.taken) m (to - at) (to - at - 1)) (sym q) w
