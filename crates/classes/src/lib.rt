@@ -30,9 +30,7 @@ pub const ASCII: usize = 128;
 // The first byte that is no such character.
 const BEYOND_ASCII: u8 = ASCII as u8;
 
-pub type ClassTable = [u8; ASCII];
-
-const CLASSES: ClassTable = [
+const CLASSES: [u8; ASCII] = [
     0, 0, 0, 0, 0, 0, 0, 0, 0, 26, 26, 26, 26, 26, 0, 0, 0, 0, 0, 0, 0, 0, 0, 0, 0, 0, 0, 0, 0, 0,
     0, 0, 26, 11, 28, 24, 29, 14, 7, 27, 15, 16, 12, 2, 21, 3, 9, 13, 31, 31, 31, 31, 31, 31, 31,
     31, 31, 31, 8, 22, 5, 1, 4, 10, 23, 30, 30, 30, 30, 30, 30, 30, 30, 30, 30, 30, 30, 30, 30, 30,
@@ -41,28 +39,31 @@ const CLASSES: ClassTable = [
 ];
 
 // The table of classes. It is made once and lent: a constant is made anew wherever it is named.
-pub fn class_table() -> ClassTable
-    ensures { result ≡ class_table }
-{
-    CLASSES
+#[derive(Drop)]
+pub struct Classes {
+    table: [u8; ASCII],
+    ghost made: { table ≡ class_table },
 }
 
-// The class of a byte.
-pub fn class_of(classes: &ClassTable, b: u8) -> u8
-    requires { classes.now ≡ class_table }
-    ensures { result ≡ class_of b }
-{
-    if b < BEYOND_ASCII {
-        let i = b as usize;
-        return classes[i];
+impl Classes {
+    pub fn new() -> Self {
+        Classes { table: CLASSES }
     }
-    OTHER
-}
 
-// The class of the byte at a place; OTHER past the end.
-pub fn class_at(classes: &ClassTable, text: &[u8], at: usize) -> u8
-    requires { classes.now ≡ class_table }
-    ensures { result ≡ class_of (get_or text.now at 0) }
-{
-    class_of(classes, characters::utf8::byte_at(text, at))
+    // The class of a byte.
+    pub fn of(&self, b: u8) -> u8
+        ensures { result ≡ class_of b }
+    {
+        if b < BEYOND_ASCII {
+            return self.table[usize::from(b)];
+        }
+        OTHER
+    }
+
+    // The class of the byte at a place; OTHER past the end.
+    pub fn at(&self, text: &[u8], at: usize) -> u8
+        ensures { result ≡ class_of (get_or text.now at 0) }
+    {
+        self.of(characters::utf8::byte_at(text, at))
+    }
 }

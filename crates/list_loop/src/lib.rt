@@ -10,6 +10,7 @@ use room::Used;
 use scanner::step;
 use spans::Position;
 use steps::{Cursor, Fill, Step, Within};
+use words::Tables;
 
 // The cursor at a place of the first line, outside of strings. A text begins at the place 0.
 fn begin(place: usize) -> Cursor
@@ -44,19 +45,13 @@ pub fn run(script: &[u8], tokens: &mut [u8], texts: &mut [u8], errors: &mut [u8]
     requires { accepted script.now ≡ true }
     ensures { Ran script.now tokens.old texts.old errors.old result tokens.new texts.new errors.new }
 {
-    let classes = classes::class_table();
-    let marks = marks::mark_table();
-    let slots = keyword_tables::slot_table();
-    let keywords = keyword_tables::keyword_table();
+    let tables = Tables::new();
     let text = byte_order_mark::after_mark(script);
     let mut c = begin(0);
     let mut u = nothing();
     loop {
         let Step::Token(t, next) = step(
-            &classes,
-            &marks,
-            &slots,
-            &keywords,
+            &tables,
             text,
             c,
             texts,

@@ -5,10 +5,10 @@ ghost use Rattle.std.specs.Prelude.{◌≡◌, ◌+◌, ◌≤◌, get_or};
 ghost use Rattle.characters.specs.Utf8.{chars_at};
 ghost use Rattle.rules.specs.Marks.{parse_mark};
 ghost use Rattle.lexemes.specs.Words.{WordAt};
-ghost use Rattle.classes.specs.Classes.{LAST_MARK, class_table, class_of};
+ghost use Rattle.classes.specs.Classes.{LAST_MARK, class_of};
 ghost use Rattle.marks.specs.Marks.{LAST_COLUMN, char_of, column_of, pair_kind, third_kind, mark_table};
 
-use classes::{ClassTable, LAST_MARK, class_at};
+use classes::{Classes, LAST_MARK};
 use lexemes::Word;
 use rules::kinds;
 
@@ -20,14 +20,12 @@ const LAST_COLUMN: u8 = 11;
 
 // A row for each first mark, in the order of the classes from 1 on, and a column for each next mark, in the same order; column 0 is
 // any other next character, or none.
-pub const ROWS: usize = LAST_MARK as usize;
+const ROWS: usize = LAST_MARK as usize;
 
-pub const COLUMNS: usize = LAST_COLUMN as usize + 1;
-
-pub type MarkTable = [[u8; COLUMNS]; ROWS];
+const COLUMNS: usize = LAST_COLUMN as usize + 1;
 
 // The kinds of the marks.
-const MARKS: MarkTable = [
+const MARKS: [[u8; COLUMNS]; ROWS] = [
     [76, 82, 76, 76, 99, 76, 76, 76, 76, 76, 76, 76], // =
     [69, 77, 74, 69, 69, 69, 69, 69, 69, 69, 69, 69], // +
     [70, 78, 70, 75, 98, 70, 70, 70, 70, 70, 70, 70], // -
@@ -55,13 +53,6 @@ const MARKS: MarkTable = [
     [93, 93, 93, 93, 93, 93, 93, 93, 93, 93, 93, 93], // ^
 ];
 
-// The table of marks. It is made once and lent.
-pub fn mark_table() -> MarkTable
-    ensures { result ≡ mark_table }
-{
-    MARKS
-}
-
 // The column of a next character's class.
 fn column_of(class: u8) -> usize
     ensures value { result ≡ column_of class }
@@ -73,91 +64,95 @@ fn column_of(class: u8) -> usize
     0
 }
 
-// The kind of the mark whose first character is of the class first, and whose next character is of the class next.
-fn mark_kind(marks: &MarkTable, first: u8, next: u8) -> u8
-    requires marks_value { marks.now ≡ mark_table }
-    requires le_first { 1 ≤ first }
-    requires first_bound { first ≤ LAST_MARK }
-    ensures { result ≡ pair_kind (char_of first) (char_of (column_of next)) }
-{
-    let row = (first - 1) as usize;
-    let column = column_of(next);
-    marks[row][column]
-}
-
-// The kind where a third mark equals the second; 0 where it is none of theirs.
-fn third_kind(kind: u8) -> u8
+// The kind where a third mark equals the second.
+fn third_kind(kind: u8) -> Option<u8>
     ensures { result ≡ third_kind kind }
 {
-    if kind == kinds::LT_LT {
-        return kinds::ERROR;
+    match kind {
+        kinds::LT_LT => Some(kinds::ERROR),
+        kinds::GT_GT => Some(kinds::GT_GT_GT),
+        kinds::DOUBLE_DOT_OP => Some(kinds::TRIPLE_DOT_OP),
+        _ => None,
     }
-    if kind == kinds::GT_GT {
-        return kinds::GT_GT_GT;
-    }
-    if kind == kinds::DOUBLE_DOT_OP {
-        return kinds::TRIPLE_DOT_OP;
-    }
-    0
 }
 
-// The mark at a place, of the class first, which may have two or three characters: a lone one has no extent.
-fn longer_mark(classes: &ClassTable, marks: &MarkTable, text: &[u8], at: usize, first: u8) -> Word
-    requires classes_value { classes.now ≡ class_table }
-    requires marks_value { marks.now ≡ mark_table }
-    requires first_value { first ≡ class_of (get_or text.now at 0) }
-    requires le_first { 1 ≤ first }
-    requires first_bound { first ≤ LAST_MARK }
-    ensures { WordAt text.now at (parse_mark (get_or text.now at 0) (chars_at text.now (at + 1))) result.kind result.length result.extent }
-{
-    let lone = mark_kind(marks, first, 0);
-    let kind = mark_kind(marks, first, class_at(classes, text, at + 1));
-    if kind == lone {
-        return Word {
-            kind,
-            length: 1,
-            extent: 0,
-        };
+// The table of marks, and the classes by which the marks are told. It is made once and lent.
+#[derive(Drop)]
+pub struct Marks {
+    pub classes: Classes,
+    kinds: [[u8; COLUMNS]; ROWS],
+    ghost made: { kinds ≡ mark_table },
+}
+
+impl Marks {
+    pub fn new() -> Self {
+        Marks {
+            classes: Classes::new(),
+            kinds: MARKS,
+        }
     }
-    let third = third_kind(kind);
-    if third == 0 {
-        return Word {
+
+    // The kind of the mark whose first character is of the class first, and whose next character is of the class next.
+    fn mark_kind(&self, first: u8, next: u8) -> u8
+        requires le_first { 1 ≤ first }
+        requires first_bound { first ≤ LAST_MARK }
+        ensures { result ≡ pair_kind (char_of first) (char_of (column_of next)) }
+    {
+        let row = usize::from(first - 1);
+        let column = column_of(next);
+        self.kinds[row][column]
+    }
+
+    // The mark at a place, of the class first, which may have two or three characters: a lone one has no extent.
+    fn longer_mark(&self, text: &[u8], at: usize, first: u8) -> Word
+        requires first_value { first ≡ class_of (get_or text.now at 0) }
+        requires le_first { 1 ≤ first }
+        requires first_bound { first ≤ LAST_MARK }
+        ensures { WordAt text.now at (parse_mark (get_or text.now at 0) (chars_at text.now (at + 1))) result.kind result.length result.extent }
+    {
+        let lone = self.mark_kind(first, 0);
+        let kind = self.mark_kind(first, self.classes.at(text, at + 1));
+        if kind == lone {
+            return Word {
+                kind,
+                length: 1,
+                extent: 0,
+            };
+        }
+        let pair = Word {
             kind,
             length: 2,
             extent: 2,
         };
-    }
-    let second = characters::utf8::byte_at(text, at + 1);
-    if bridge::is_at(text, at + 2, second) {
-        return Word {
-            kind: third,
-            length: 3,
-            extent: 3,
+        let Some(third) = third_kind(kind) else {
+            return pair;
         };
+        let second = characters::utf8::byte_at(text, at + 1);
+        if bridge::is_at(text, at + 2, second) {
+            return Word {
+                kind: third,
+                length: 3,
+                extent: 3,
+            };
+        }
+        pair
     }
-    Word {
-        kind,
-        length: 2,
-        extent: 2,
-    }
-}
 
-// The mark at a place, of the class first. Those from the class DELIMITER on stand alone, whatever follows.
-pub fn mark_at(classes: &ClassTable, marks: &MarkTable, text: &[u8], at: usize, first: u8) -> Word
-    requires classes_value { classes.now ≡ class_table }
-    requires marks_value { marks.now ≡ mark_table }
-    requires first_value { first ≡ class_of (get_or text.now at 0) }
-    requires le_first { 1 ≤ first }
-    requires first_bound { first ≤ LAST_MARK }
-    ensures { WordAt text.now at (parse_mark (get_or text.now at 0) (chars_at text.now (at + 1))) result.kind result.length result.extent }
-{
-    if DELIMITER <= first {
-        let kind = mark_kind(marks, first, 0);
-        return Word {
-            kind,
-            length: 1,
-            extent: 0,
-        };
+    // The mark at a place, of the class first. Those from the class DELIMITER on stand alone, whatever follows.
+    pub fn mark_at(&self, text: &[u8], at: usize, first: u8) -> Word
+        requires first_value { first ≡ class_of (get_or text.now at 0) }
+        requires le_first { 1 ≤ first }
+        requires first_bound { first ≤ LAST_MARK }
+        ensures { WordAt text.now at (parse_mark (get_or text.now at 0) (chars_at text.now (at + 1))) result.kind result.length result.extent }
+    {
+        if DELIMITER <= first {
+            let kind = self.mark_kind(first, 0);
+            return Word {
+                kind,
+                length: 1,
+                extent: 0,
+            };
+        }
+        self.longer_mark(text, at, first)
     }
-    longer_mark(classes, marks, text, at, first)
 }

@@ -8,10 +8,8 @@ ghost use Rattle.rules.specs.Scan.{next, run};
 ghost use Rattle.rules.specs.Names.{parse_identifier_or_keyword};
 ghost use Rattle.bridge.specs.Bridge.{Cut};
 ghost use Rattle.lexemes.specs.Words.{WordAt};
-ghost use Rattle.keyword_tables.specs.Keywords.{slot_table, keyword_table};
 
-use keyword_tables::{KeywordTable, SlotTable};
-use keywords::name_kind;
+use keywords::Keywords;
 use lexemes::Word;
 
 // A letter, small or capital.
@@ -40,15 +38,13 @@ pub fn name_end(text: &[u8], from: usize) -> usize
 }
 
 // The name or keyword at a place: its span ends at its last character.
-pub fn name_at(slots: &SlotTable, keywords: &KeywordTable, text: &[u8], at: usize) -> Word
-    requires slots_value { slots.now ≡ slot_table }
-    requires keywords_value { keywords.now ≡ keyword_table }
+pub fn name_at(keywords: &Keywords, text: &[u8], at: usize) -> Word
     requires at_in_bounds { at ≤ length text.now }
     requires at_value { next is_ident_part (chars_at text.now at) ≡ true }
     ensures { WordAt text.now at (parse_identifier_or_keyword (chars_at text.now at)) result.kind result.length result.extent }
 {
     let to = name_end(text, at);
-    let kind = name_kind(slots, keywords, text, at, to);
+    let kind = keywords.name_kind(&text[at..to]);
     let n = to - at;
     let last = n - 1;
     Word {

@@ -26,7 +26,7 @@ use Rattle.skipping.proofs.Stops.{kept_line, kept_block}
 use Rattle.classes.specs.Classes.{OTHER, SLASH, SPACE, APOSTROPHE, QUOTE, DOLLAR, LETTER, DIGIT, mark_chars, place_from, class_of}
 use Rattle.words.specs.Words.{is_word_class, begins_word}
 use Rattle.lexemes.proofs.Lists.{all_below, below}
-use Rattle.classes.proofs.Classes.{class_low, class_there, class_char, dollar_is, slash_is}
+use Rattle.classes.proofs.Laws.{class_low, class_there, class_char, dollar_is, slash_is}
 use Rattle.words.proofs.Segments.{space_segment}
 
 starts_cons : (b : ℕ) (t cs : Text) → starts_with t cs ≡ true → starts_with (b ∷ t) (b ∷ cs) ≡ true

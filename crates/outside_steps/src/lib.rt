@@ -2,36 +2,29 @@
 #![tactic(auto)]
 
 ghost use Rattle.bridge.specs.Bridge.{Within as InText};
-ghost use Rattle.words.specs.Words.{Lent};
 ghost use Rattle.steps.specs.Step.{AfterString, AfterComment, Roomy};
 ghost use Rattle.steps.specs.Tokens.{GivenAt, Kept};
 
-use classes::ClassTable;
-use keyword_tables::{KeywordTable, SlotTable};
-use marks::MarkTable;
 use spans::Position;
 use steps::{Fill, Step, made};
+use words::Tables;
 
 // The token at a position where nothing that is skipped stands; or EOF.
 pub fn scan_at(
-    classes: &ClassTable,
-    marks: &MarkTable,
-    slots: &SlotTable,
-    keywords: &KeywordTable,
+    tables: &Tables,
     text: &[u8],
     p: Position,
     texts: &mut [u8],
     errors: &mut [u8],
     fill: Fill,
 ) -> Step
-    requires lent { Lent classes.now marks.now slots.now keywords.now }
     requires in_text { InText text.now p }
     requires kept { Kept text.now p }
     requires roomy { Roomy AfterComment fill.texts fill.errors }
     ensures { GivenAt text.now p texts.old fill.texts errors.old fill.errors result texts.new errors.new }
 {
     let at = p.offset;
-    let class = classes::class_at(classes, text, at);
+    let class = tables.marks.classes.at(text, at);
     if class == classes::OTHER {
         return word_tokens::other_step(text, p, texts, errors, fill);
     }
@@ -42,7 +35,7 @@ pub fn scan_at(
         return string_tokens::letter_token(text, p, texts, errors, fill);
     }
     if words::begins_word(text, at, class) {
-        return word_tokens::word_token(classes, marks, slots, keywords, text, p, class, fill);
+        return word_tokens::word_token(tables, text, p, class, fill);
     }
     if class == classes::DOLLAR {
         return string_tokens::braces_token(text, p, texts, errors, fill);
@@ -52,17 +45,13 @@ pub fn scan_at(
 
 // Past white space and comments from a position on, and then a token or EOF.
 pub fn outside_step(
-    classes: &ClassTable,
-    marks: &MarkTable,
-    slots: &SlotTable,
-    keywords: &KeywordTable,
+    tables: &Tables,
     text: &[u8],
     p: Position,
     texts: &mut [u8],
     errors: &mut [u8],
     fill: Fill,
 ) -> Step
-    requires lent { Lent classes.now marks.now slots.now keywords.now }
     requires in_text { InText text.now p }
     requires roomy { Roomy AfterString fill.texts fill.errors }
     ensures { GivenAt text.now p texts.old fill.texts errors.old fill.errors result texts.new errors.new }
@@ -74,10 +63,7 @@ pub fn outside_step(
         return made::end_step(at, fill.texts, used, true);
     }
     scan_at(
-        classes,
-        marks,
-        slots,
-        keywords,
+        tables,
         text,
         at,
         texts,

@@ -4,15 +4,12 @@
 ghost use Rattle.std.specs.Prelude.{◌≡◌, true, ◌≤◌};
 ghost use Rattle.rules.specs.Script.{accepted};
 ghost use Rattle.bridge.specs.Bridge.{placed, Within};
-ghost use Rattle.classes.specs.Classes.{class_table};
-ghost use Rattle.marks.specs.Marks.{mark_table};
 ghost use Rattle.output.specs.Writing.{Put, PLACES};
 ghost use Rattle.prints.specs.Writing.{due_space};
 ghost use Rattle.print_places.specs.Places as places;
 ghost use Rattle.print_loop.specs.Loops.{FRONT, turn_of, last_turn, Nothing, LastAt, TurnAt, WalkedAt};
 
-use classes::ClassTable;
-use marks::MarkTable;
+use marks::Marks;
 use print_steps::Printed;
 
 // A turn of the loop: the place behind what was printed, the place behind its bytes, whether a space is due behind it; `ended` says that
@@ -84,21 +81,18 @@ fn end_at(text: &[u8], from: usize, at: usize) -> Turn
 
 // The next element from a place on, behind a space if one is due.
 fn next(
-    classes: &ClassTable,
-    marks: &MarkTable,
+    marks: &Marks,
     text: &[u8],
     from: usize,
     due: bool,
     out: &mut [u8],
     at: usize,
 ) -> Turn
-    requires classes_value { classes.now ≡ class_table }
-    requires marks_value { marks.now ≡ mark_table }
     requires within { Within text.now (placed from) }
     requires at_bound { at ≤ FRONT }
     ensures { TurnAt text.now from due out.old out.new at result }
 {
-    let g = print_skips::skip(classes, text, from);
+    let g = print_skips::skip(&marks.classes, text, from);
     let start = g.at;
     if g.open {
         return last(start, at, true);
@@ -108,7 +102,7 @@ fn next(
         return end_at(text, start, at);
     }
     let place = put_space(due, out, at);
-    turn_of(print_steps::put_element(classes, marks, text, start, class, out, place))
+    turn_of(print_steps::put_element(marks, text, start, class, out, place))
 }
 
 // The print of a script, as far as the buffer holds it; and where an error was recorded, that.
@@ -116,14 +110,13 @@ pub fn write(script: &[u8], out: &mut [u8]) -> Walked
     requires { accepted script.now ≡ true }
     ensures { WalkedAt script.now out.old out.new result }
 {
-    let classes = classes::class_table();
-    let marks = marks::mark_table();
+    let marks = Marks::new();
     let text = byte_order_mark::after_mark(script);
     let mut from = 0;
     let mut due = false;
     let mut at = 0;
     loop {
-        let t = next(&classes, &marks, text, from, due, out, at);
+        let t = next(&marks, text, from, due, out, at);
         if t.bad {
             return Walked {
                 bytes: t.out,

@@ -24,7 +24,7 @@ use Rattle.bridge.proofs.Bytes.{byte_next}
 use Rattle.bridge.proofs.Reaches.{advance_offset}
 use Rattle.lexemes.proofs.Lists.{all_below, below}
 use Rattle.classes.specs.Classes.{OTHER, SLASH, SPACE, mark_chars, place_from, class_of}
-use Rattle.classes.proofs.Classes.{class_low}
+use Rattle.classes.proofs.Laws.{class_low}
 use Rattle.walks.specs.Openings.{opens_line, opens_block}
 use Rattle.walks.specs.Errors.{unclosed}
 use Rattle.walks.specs.declared.Closing.{Closing}

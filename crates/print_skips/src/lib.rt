@@ -4,11 +4,10 @@
 ghost use Rattle.std.specs.Prelude.{◌≡◌};
 ghost use Rattle.bridge.specs.Bridge.{placed, Within};
 ghost use Rattle.print_places.specs.Places as places;
-ghost use Rattle.classes.specs.Classes.{class_table};
 ghost use Rattle.print_skips.specs.Gaps.{SomeWhite, BlanksTo, WhiteTo, CommentAt, SkippedAt};
 
 use characters::space;
-use classes::ClassTable;
+use classes::Classes;
 use walks::walk;
 
 // Where white space ends: the place, and the class of the byte there.
@@ -48,24 +47,22 @@ fn past_wide(text: &[u8], from: usize) -> usize
 }
 
 // Past white space of one byte.
-fn past_blanks(classes: &ClassTable, text: &[u8], from: usize) -> Stop
-    requires classes_value { classes.now ≡ class_table }
-    requires within { Within text.now (placed from) }
+fn past_blanks(classes: &Classes, text: &[u8], from: usize) -> Stop
+    requires { Within text.now (placed from) }
     ensures { BlanksTo text.now from result }
 {
     let mut at = from;
-    let mut class = classes::class_at(classes, text, at);
+    let mut class = classes.at(text, at);
     while class == classes::SPACE {
         at += 1;
-        class = classes::class_at(classes, text, at);
+        class = classes.at(text, at);
     }
     Stop { at, class }
 }
 
 // Past white space.
-fn past_white(classes: &ClassTable, text: &[u8], from: usize) -> Stop
-    requires classes_value { classes.now ≡ class_table }
-    requires within { Within text.now (placed from) }
+fn past_white(classes: &Classes, text: &[u8], from: usize) -> Stop
+    requires { Within text.now (placed from) }
     ensures { WhiteTo text.now from result }
 {
     let mut at = from;
@@ -101,9 +98,8 @@ fn comment_at(text: &[u8], at: usize) -> Comment
 }
 
 // Past white space and comments.
-pub fn skip(classes: &ClassTable, text: &[u8], from: usize) -> Gap
-    requires classes_value { classes.now ≡ class_table }
-    requires within { Within text.now (placed from) }
+pub fn skip(classes: &Classes, text: &[u8], from: usize) -> Gap
+    requires { Within text.now (placed from) }
     ensures { SkippedAt text.now from result }
 {
     let mut next = from;

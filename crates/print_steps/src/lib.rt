@@ -8,14 +8,12 @@ ghost use Rattle.rules.specs.Scan.{next, starts_with};
 ghost use Rattle.bridge.specs.Bridge.{placed, Within, exactly};
 ghost use Rattle.walks.specs.Openings.{opens_doc};
 ghost use Rattle.multiline.specs.Tokens.{slashes};
-ghost use Rattle.classes.specs.Classes.{class_table, class_of};
-ghost use Rattle.marks.specs.Marks.{mark_table};
+ghost use Rattle.classes.specs.Classes.{class_of};
 ghost use Rattle.print_escapes.specs.Escapes.{MOST};
 ghost use Rattle.print_places.specs.Places as places;
 ghost use Rattle.print_steps.specs.Steps.{Chosen, printed_of, PrintedAt};
 
-use classes::ClassTable;
-use marks::MarkTable;
+use marks::Marks;
 use print_places::Written;
 
 // What was printed: the place behind it, the place behind its bytes, whether a space is due behind it, and whether an error was
@@ -67,16 +65,13 @@ fn put_doc(text: &[u8], from: usize, out: &mut [u8], at: usize) -> Written
 
 // What stands at a place of the class that is told, where nothing that is skipped does.
 pub fn put_element(
-    classes: &ClassTable,
-    marks: &MarkTable,
+    marks: &Marks,
     text: &[u8],
     from: usize,
     class: u8,
     out: &mut [u8],
     at: usize,
 ) -> Printed
-    requires classes_value { classes.now ≡ class_table }
-    requires marks_value { marks.now ≡ mark_table }
     requires within { Within text.now (placed from) }
     requires chosen { Chosen text.now from class }
     requires at_bound { at ≤ MOST / 4 }
@@ -90,7 +85,7 @@ pub fn put_element(
     }
     if words::begins_word(text, from, class) {
         return printed_of(
-            print_words::put_word(classes, marks, text, from, class, out, at),
+            print_words::put_word(marks, text, from, class, out, at),
             true,
         );
     }

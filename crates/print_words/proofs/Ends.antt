@@ -15,7 +15,7 @@ use Rattle.rules.specs.Numbers.{parse_number}
 use Rattle.bridge.specs.Bridge.{Cut}
 use Rattle.lexemes.specs.Words.{WordAt}
 use Rattle.classes.specs.Classes.{DOLLAR, LETTER, DIGIT}
-use Rattle.classes.proofs.Classes.{class_there}
+use Rattle.classes.proofs.Laws.{class_there}
 use Rattle.names.proofs.Names.{name_word}
 use Rattle.words.specs.Words.{begins_word, Begun}
 use Rattle.words.proofs.Begins.{letter_there, letter_word, digit_word, dollar_word}

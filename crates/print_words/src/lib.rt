@@ -4,22 +4,17 @@
 ghost use Rattle.std.specs.Prelude.{◌≡◌, true, ◌≤◌, length};
 ghost use Rattle.std.proofs.Math.Seq.{slice};
 ghost use Rattle.bridge.specs.Bridge.{placed, Within};
-ghost use Rattle.classes.specs.Classes.{class_table};
-ghost use Rattle.marks.specs.Marks.{mark_table};
 ghost use Rattle.words.specs.Words.{Begun};
 ghost use Rattle.output.specs.Writing.{Put, PLACES};
 ghost use Rattle.print_places.specs.Places as places;
 ghost use Rattle.print_words.specs.Ends.{EndsAt};
 
-use classes::ClassTable;
-use marks::MarkTable;
+use marks::Marks;
 use print_places::Written;
 
 // The end of the word at a place, of the class that is told. Which keyword a name is plays no part in a print.
-fn word_end(classes: &ClassTable, marks: &MarkTable, text: &[u8], at: usize, class: u8) -> usize
-    requires classes_value { classes.now ≡ class_table }
-    requires marks_value { marks.now ≡ mark_table }
-    requires begun { Begun text.now at class }
+fn word_end(marks: &Marks, text: &[u8], at: usize, class: u8) -> usize
+    requires { Begun text.now at class }
     ensures { EndsAt text.now at result }
 {
     if class == classes::LETTER {
@@ -32,7 +27,7 @@ fn word_end(classes: &ClassTable, marks: &MarkTable, text: &[u8], at: usize, cla
     if class == classes::DOLLAR {
         return at + 1;
     }
-    let w = marks::mark_at(classes, marks, text, at, class);
+    let w = marks.mark_at(text, at, class);
     at + w.length
 }
 
@@ -52,22 +47,19 @@ fn put_text(text: &[u8], from: usize, to: usize, out: &mut [u8], at: usize) -> u
 
 // The word at a place.
 pub fn put_word(
-    classes: &ClassTable,
-    marks: &MarkTable,
+    marks: &Marks,
     text: &[u8],
     from: usize,
     class: u8,
     out: &mut [u8],
     at: usize,
 ) -> Written
-    requires classes_value { classes.now ≡ class_table }
-    requires marks_value { marks.now ≡ mark_table }
     requires within { Within text.now (placed from) }
     requires begun { Begun text.now from class }
     requires at_bound { at ≤ PLACES }
     ensures { places.EmittedAt true text.now from out.old out.new at result }
 {
-    let end = word_end(classes, marks, text, from, class);
+    let end = word_end(marks, text, from, class);
     Written {
         at: end,
         out: put_text(text, from, end, out, at),

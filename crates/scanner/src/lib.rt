@@ -2,18 +2,13 @@
 #![tactic(auto)]
 
 ghost use Rattle.std.specs.Prelude.{◌≡◌};
-ghost use Rattle.classes.specs.Classes.{class_table};
-ghost use Rattle.keyword_tables.specs.Keywords.{slot_table, keyword_table};
-ghost use Rattle.marks.specs.Marks.{mark_table};
 ghost use Rattle.steps.specs.Step.{Good, Used, Stepped};
 ghost use Rattle.scanner.specs.Entry.{known_entry, begun_entry, Entered};
 
-use classes::ClassTable;
-use keyword_tables::{KeywordTable, SlotTable};
-use marks::MarkTable;
 use spans::Position;
 use steps::{Cursor, Fill, Step, Within};
 use strings::{Piece, pieces};
+use words::Tables;
 
 // Where a step begins: the step itself where it is known already; else the position at which one outside of strings begins, and how
 // many bytes of the errors are used there. It is a struct because a step in an enum's case is copied byte by byte.
@@ -84,20 +79,13 @@ fn enter(text: &[u8], c: Cursor, texts: &mut [u8], errors: &mut [u8], fill: Fill
 // One step from a cursor: the next token, with its text written at texts[fill.texts..] and its errors at errors[fill.errors..],
 // as far as the buffers reach; or the end, behind EOF.
 pub fn step(
-    classes: &ClassTable,
-    marks: &MarkTable,
-    slots: &SlotTable,
-    keywords: &KeywordTable,
+    tables: &Tables,
     text: &[u8],
     c: Cursor,
     texts: &mut [u8],
     errors: &mut [u8],
     fill: Fill,
 ) -> Step
-    requires classes_value { classes.now ≡ class_table }
-    requires marks_value { marks.now ≡ mark_table }
-    requires slots_value { slots.now ≡ slot_table }
-    requires keywords_value { keywords.now ≡ keyword_table }
     requires good { Good text.now c }
     requires used { Used fill.texts fill.errors }
     ensures { Stepped text.now c texts.old fill.texts errors.old fill.errors result texts.new errors.new }
@@ -109,10 +97,7 @@ pub fn step(
     let p = e.at;
     let used = e.errors;
     outside_steps::outside_step(
-        classes,
-        marks,
-        slots,
-        keywords,
+        tables,
         text,
         p,
         texts,

@@ -6,16 +6,14 @@ ghost use Rattle.characters.specs.Utf8.{chars_at};
 ghost use Rattle.rules.specs.Scan.{next};
 ghost use Rattle.bridge.specs.Bridge.{Within as InText};
 ghost use Rattle.multiline.specs.Tokens.{begins_nothing};
-ghost use Rattle.words.specs.Words.{Lent, Begun};
+ghost use Rattle.words.specs.Words.{Begun};
 ghost use Rattle.steps.specs.Step.{AfterComment, Roomy};
 ghost use Rattle.steps.specs.Tokens.{FoundAt, FoundBare, GivenAt};
 ghost use Rattle.word_tokens.specs.Other.{Other};
 
-use classes::ClassTable;
-use keyword_tables::{KeywordTable, SlotTable};
-use marks::MarkTable;
 use spans::Position;
 use steps::{Fill, Step, made};
+use words::Tables;
 
 // The character at a position, which begins nothing.
 pub fn unexpected_token(
@@ -36,21 +34,17 @@ pub fn unexpected_token(
 
 // The word at a position, whose first byte is of the class `class`.
 pub fn word_token(
-    classes: &ClassTable,
-    marks: &MarkTable,
-    slots: &SlotTable,
-    keywords: &KeywordTable,
+    tables: &Tables,
     text: &[u8],
     p: Position,
     class: u8,
     fill: Fill,
 ) -> Step
-    requires lent { Lent classes.now marks.now slots.now keywords.now }
     requires in_text { InText text.now p }
     requires begun { Begun text.now p.offset class }
     ensures { FoundBare text.now p fill.texts fill.errors result }
 {
-    let w = words::word_at(classes, marks, slots, keywords, text, p.offset, class);
+    let w = tables.word_at(text, p.offset, class);
     made::word_step(p, w, fill.texts, fill.errors)
 }
 

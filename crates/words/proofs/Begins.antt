@@ -25,7 +25,7 @@ use Rattle.lexemes.specs.Words.{WordAt}
 use Rattle.lexemes.proofs.Tests.{digit_low}
 use Rattle.lexemes.proofs.Words.{word_of, text_plain, end_word}
 use Rattle.classes.specs.Classes.{SLASH, DOLLAR, LETTER, DIGIT, class_of}
-use Rattle.classes.proofs.Classes.{class_low, class_there, letter_part, digit_part, dollar_is, slash_is}
+use Rattle.classes.proofs.Laws.{class_low, class_there, letter_part, digit_part, dollar_is, slash_is}
 use Rattle.names.proofs.Tests.{part_low}
 use Rattle.words.specs.Words.{is_word_class, begins_word, Begun}
 use Rattle.words.proofs.Segments.{slash_segment, dollar_segment, digit_segment, letter_segment, mark_segment}

@@ -18,7 +18,7 @@ use Rattle.rules.specs.Comments.{white_space}
 use Rattle.rules.specs.Marks.{unexpected}
 use Rattle.rules.specs.Lexer.{segment}
 use Rattle.classes.specs.Classes.{OTHER, class_of}
-use Rattle.marks.proofs.Marks.{other_mark, wide_mark}
+use Rattle.marks.proofs.Laws.{other_mark, wide_mark}
 use Rattle.words.proofs.Segments.{segment_by, lead_class, segment_class}
 
 -- An ASCII character that begins nothing.

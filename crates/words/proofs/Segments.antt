@@ -23,7 +23,7 @@ use Rattle.rules.specs.Docs.{parse_slash_or_comment}
 use Rattle.rules.specs.Lexer.{parse_dollar, segment}
 use Rattle.lexemes.proofs.Lists.{all_below, below}
 use Rattle.classes.specs.Classes.{SLASH, SPACE, APOSTROPHE, QUOTE, DOLLAR, LETTER, DIGIT, mark_chars, place_from, class_of}
-use Rattle.classes.proofs.Classes.{class_low, class_char}
+use Rattle.classes.proofs.Laws.{class_low, class_char}
 
 -- The segment that a lead stands for: a class, and 0 for all that `parse_mark` decides.
 unfoldable pub segment_by : ℕ → Char → Text → Segment

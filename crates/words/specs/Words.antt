@@ -1,12 +1,10 @@
--- Where a word begins, and the tables that its scanners are lent.
+-- Where a word begins.
 use Rattle.std.specs.Prelude.{◌≡◌, Bool, true, ◌||◌, not, List, ℕ, ◌+◌, get_or, if◌then◌else◌}
 use Rattle.characters.specs.Choice.{◌is◌, within}
 use Rattle.characters.specs.Utf8.{chars_at}
 use Rattle.rules.specs.Text.{Text, text}
 use Rattle.rules.specs.Scan.{starts_with}
-use Rattle.classes.specs.Classes.{LAST_MARK, SLASH, DOLLAR, LETTER, DIGIT, class_of, class_table}
-use Rattle.keyword_tables.specs.Keywords.{slot_table, keyword_table}
-use Rattle.marks.specs.Marks.{mark_table}
+use Rattle.classes.specs.Classes.{LAST_MARK, SLASH, DOLLAR, LETTER, DIGIT, class_of}
 
 -- The classes of the characters with which a word can begin.
 unfoldable pub is_word_class : ℕ → Bool
@@ -19,13 +17,6 @@ begins_word k cs =
     if k is DOLLAR then not (starts_with (text "{") cs)
     else if k is SLASH then not (starts_with (text "/") cs || starts_with (text "*") cs)
     else k is LETTER || k is DIGIT || within 1 LAST_MARK k
-
--- The tables that are lent.
-pub record Lent (classes : List ℕ) (marks : List (List ℕ)) (slots : List ℕ) (keywords : List (List ℕ)) : Type 0 where
-  pub classes_are : classes ≡ class_table
-  pub marks_are : marks ≡ mark_table
-  pub slots_are : slots ≡ slot_table
-  pub keywords_are : keywords ≡ keyword_table
 
 -- A word begins at a place, whose byte is of the class `k`.
 pub record Begun (s : List ℕ) (at k : ℕ) : Type 0 where

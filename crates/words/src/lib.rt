@@ -5,12 +5,11 @@ ghost use Rattle.std.specs.Prelude.{◌≡◌, true, ◌+◌, ◌<◌, length};
 ghost use Rattle.characters.specs.Utf8.{chars_at};
 ghost use Rattle.rules.specs.Lexer.{segment};
 ghost use Rattle.lexemes.specs.Words.{WordAt};
-ghost use Rattle.words.specs.Words.{is_word_class, begins_word, Lent, Begun};
+ghost use Rattle.words.specs.Words.{is_word_class, begins_word, Begun};
 
-use classes::ClassTable;
-use keyword_tables::{KeywordTable, SlotTable};
+use keywords::Keywords;
 use lexemes::Word;
-use marks::MarkTable;
+use marks::Marks;
 use rules::kinds;
 
 // Whether a word begins with the character at a place, of the class that is told, with which one can begin.
@@ -29,32 +28,39 @@ pub fn begins_word(text: &[u8], at: usize, class: u8) -> bool
     true
 }
 
-// The word at a place, of the class that is told. The tables are those of class_table, mark_table, slot_table and keyword_table.
-pub fn word_at(
-    classes: &ClassTable,
-    marks: &MarkTable,
-    slots: &SlotTable,
-    keywords: &KeywordTable,
-    text: &[u8],
-    at: usize,
-    class: u8,
-) -> Word
-    requires lent { Lent classes.now marks.now slots.now keywords.now }
-    requires begun { Begun text.now at class }
-    ensures { WordAt text.now at (segment (chars_at text.now at)) result.kind result.length result.extent }
-{
-    if class == classes::LETTER {
-        return names::name_at(slots, keywords, text, at);
+// The tables that a step asks, made once and lent.
+#[derive(Drop)]
+pub struct Tables {
+    pub marks: Marks,
+    pub keywords: Keywords,
+}
+
+impl Tables {
+    pub fn new() -> Self {
+        Tables {
+            marks: Marks::new(),
+            keywords: Keywords::new(),
+        }
     }
-    if class == classes::DIGIT {
-        return numbers::numeral_at(text, at);
+
+    // The word at a place, of the class that is told.
+    pub fn word_at(&self, text: &[u8], at: usize, class: u8) -> Word
+        requires { Begun text.now at class }
+        ensures { WordAt text.now at (segment (chars_at text.now at)) result.kind result.length result.extent }
+    {
+        if class == classes::LETTER {
+            return names::name_at(&self.keywords, text, at);
+        }
+        if class == classes::DIGIT {
+            return numbers::numeral_at(text, at);
+        }
+        if class == classes::DOLLAR {
+            return Word {
+                kind: kinds::IDENT,
+                length: 1,
+                extent: 0,
+            };
+        }
+        self.marks.mark_at(text, at, class)
     }
-    if class == classes::DOLLAR {
-        return Word {
-            kind: kinds::IDENT,
-            length: 1,
-            extent: 0,
-        };
-    }
-    marks::mark_at(classes, marks, text, at, class)
 }

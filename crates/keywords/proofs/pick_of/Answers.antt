@@ -1,5 +1,5 @@
 -- `pick_of` meets its contract. Assumes nothing.
-use Rattle.keywords.proofs.Keywords.{pick_in, pick_out}
+use Rattle.keywords.proofs.Laws.{pick_in, pick_out}
 use Rattle.keywords.proofs.pick_of.Goals as goal
 
 pub returns-then-i-n : goal.returns-then-i-n

@@ -11,7 +11,7 @@ loop-t-init c =
 
 pub step-requires : goal.step-requires
 step-requires c =
-    record { classes_value = c.class_table-classes.ensures; marks_value = c.mark_table-marks.ensures; slots_value = c.slot_table-slots.ensures; keywords_value = c.keyword_table-keywords.ensures; good = c.loop-t.invariant.good; used = going_used _ _ _ _ _ _ _ _ _ _ c.loop-t.invariant }
+    record { good = c.loop-t.invariant.good; used = going_used _ _ _ _ _ _ _ _ _ _ c.loop-t.invariant }
 
 pub put_token-used-requires : goal.put_token-used-requires
 put_token-used-requires c = going_tokens _ _ _ _ _ _ _ _ _ _ c.loop-t.invariant

@@ -1,6 +1,6 @@
 -- `column_of` meets its contract. Assumes nothing.
 use native.Mathlib.Omega.{arith}
-use Rattle.marks.proofs.Marks.{column_own, column_none}
+use Rattle.marks.proofs.Laws.{column_own, column_none}
 use Rattle.marks.proofs.column_of.Goals as goal
 
 pub returns-then-class-le-LAST_COLUMN : goal.returns-then-class-le-LAST_COLUMN

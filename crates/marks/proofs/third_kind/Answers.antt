@@ -1,17 +1,23 @@
 -- `third_kind` meets its contract. Assumes nothing.
-use mathlib.Core.Path.{sym, ◌∙◌}
-use borrow.Author.Tests.{eq-eqb, ne_eqb}
-use Rattle.marks.proofs.Marks.{third_is}
+use mathlib.Core.Path.{refl}
+use native.Mathlib.Omega.{arith}
+use borrow.Author.Tests.{ne_eqb}
+use Rattle.rules.specs.Tables.{THIRDS, lookup}
+use Rattle.marks.specs.Marks.{found_of, third_kind}
 use Rattle.marks.proofs.third_kind.Goals as goal
 
-pub returns-then-kind-eq-LT_LT : goal.returns-then-kind-eq-LT_LT
-returns-then-kind-eq-LT_LT c = sym (third_is _ ∙ rw (eq-eqb _ _ c.if-kind-eq-LT_LT.true))
+pub returns-in-94 : goal.returns-in-94
+unfolding third_kind found_of lookup THIRDS
+returns-in-94 c = rw c.in-94.is refl
 
-pub returns-then-kind-eq-GT_GT : goal.returns-then-kind-eq-GT_GT
-returns-then-kind-eq-GT_GT c = sym (third_is _ ∙ rw (ne_eqb _ _ c.if-kind-eq-LT_LT.false, eq-eqb _ _ c.if-kind-eq-GT_GT.true))
+pub returns-in-95 : goal.returns-in-95
+unfolding third_kind found_of lookup THIRDS
+returns-in-95 c = rw c.in-95.is refl
 
-pub returns-then-kind-eq-DOUBLE_DOT_OP : goal.returns-then-kind-eq-DOUBLE_DOT_OP
-returns-then-kind-eq-DOUBLE_DOT_OP c = sym (third_is _ ∙ rw (ne_eqb _ _ c.if-kind-eq-LT_LT.false, ne_eqb _ _ c.if-kind-eq-GT_GT.false, eq-eqb _ _ c.if-kind-eq-DOUBLE_DOT_OP.true))
+pub returns-in-116 : goal.returns-in-116
+unfolding third_kind found_of lookup THIRDS
+returns-in-116 c = rw c.in-116.is refl
 
-pub returns : goal.returns
-returns c = sym (third_is _ ∙ rw (ne_eqb _ _ c.if-kind-eq-LT_LT.false, ne_eqb _ _ c.if-kind-eq-GT_GT.false, ne_eqb _ _ c.if-kind-eq-DOUBLE_DOT_OP.false))
+pub returns-in_default : goal.returns-in_default
+unfolding third_kind found_of lookup THIRDS
+returns-in_default c = rw (ne_eqb c.args.kind 94 (λ e. omega arith), ne_eqb c.args.kind 95 (λ e. omega arith), ne_eqb c.args.kind 116 (λ e. omega arith)) refl

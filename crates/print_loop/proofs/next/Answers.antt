@@ -22,7 +22,7 @@ returns-then-class-eq-OTHER c =
 pub put_element-requires : goal.put_element-requires
 put_element-requires c =
     let w = skip_closed c.args.text.now c.args.from _ c.skip-g.ensures c.if-g.false in
-    record { classes_value = c.requires.classes_value; marks_value = c.requires.marks_value; within = w.passed.within; chosen = record { class_is = w.class_is; some = c.if-class-eq-OTHER.false; kept = w.stops }; at_bound = omega (arith, c.put_space-place.ensures.place, due_length c.args.due, c.requires.at_bound) }
+    record { within = w.passed.within; chosen = record { class_is = w.class_is; some = c.if-class-eq-OTHER.false; kept = w.stops }; at_bound = omega (arith, c.put_space-place.ensures.place, due_length c.args.due, c.requires.at_bound) }
 
 pub returns : goal.returns
 returns c =

@@ -8,7 +8,7 @@ loop-text-init c = walk_start _ _ _ c.after_mark-text.ensures.result_value c.req
 
 pub next-t-requires : goal.next-t-requires
 next-t-requires c =
-    record { classes_value = c.class_table-classes.ensures; marks_value = c.mark_table-marks.ensures; within = c.loop-text.invariant.within; at_bound = walk_front _ _ _ _ _ _ _ c.loop-text.invariant }
+    record { within = c.loop-text.invariant.within; at_bound = walk_front _ _ _ _ _ _ _ c.loop-text.invariant }
 
 pub shape_of-out-then-t : goal.shape_of-out-then-t
 shape_of-out-then-t c =

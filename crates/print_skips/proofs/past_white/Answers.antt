@@ -5,10 +5,10 @@ use Rattle.print_skips.proofs.Passing.{passed_none, passed_join, class_stops}
 use Rattle.print_skips.proofs.past_white.Goals as goal
 
 pub loop-b-init : goal.loop-b-init
-loop-b-init c = passed_none _ _ c.requires.within
+loop-b-init c = passed_none _ _ c.requires
 
 pub past_blanks-b-requires : goal.past_blanks-b-requires
-past_blanks-b-requires c = record { classes_value = c.requires.classes_value; within = c.loop-b.invariant.within }
+past_blanks-b-requires c = c.loop-b.invariant.within
 
 pub returns-then-b-ne-OTHER : goal.returns-then-b-ne-OTHER
 returns-then-b-ne-OTHER c =

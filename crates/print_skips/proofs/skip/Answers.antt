@@ -7,10 +7,10 @@ use Rattle.print_skips.proofs.Passing.{passed_none, passed_join, skipped_all, sk
 use Rattle.print_skips.proofs.skip.Goals as goal
 
 pub loop-from-init : goal.loop-from-init
-loop-from-init c = passed_none _ _ c.requires.within
+loop-from-init c = passed_none _ _ c.requires
 
 pub past_white-w-requires : goal.past_white-w-requires
-past_white-w-requires c = record { classes_value = c.requires.classes_value; within = c.loop-from.invariant.within }
+past_white-w-requires c = c.loop-from.invariant.within
 
 pub returns-then-class-ne-SLASH : goal.returns-then-class-ne-SLASH
 returns-then-class-ne-SLASH c =

@@ -32,7 +32,7 @@ begins_word-requires c =
 pub put_word-requires : goal.put_word-requires
 put_word-requires c =
     let f = sym c.begins_word.ensures ∙ c.if-begins_word.true in
-    record { classes_value = c.requires.classes_value; marks_value = c.requires.marks_value; within = c.requires.within; begun = record { class_is = c.requires.chosen.class_is; begins = f }; at_bound = omega (arith, c.requires.at_bound) }
+    record { within = c.requires.within; begun = record { class_is = c.requires.chosen.class_is; begins = f }; at_bound = omega (arith, c.requires.at_bound) }
 
 pub returns-then-begins_word : goal.returns-then-begins_word
 returns-then-begins_word c =

@@ -7,31 +7,31 @@ use Rattle.print_words.proofs.word_end.Goals as goal
 
 pub name_end-requires : goal.name_end-requires
 name_end-requires c =
-    (letter_there c.args.text.now c.args.at c.args.class c.requires.begun c.if-class-eq-LETTER.true).0
+    (letter_there c.args.text.now c.args.at c.args.class c.requires c.if-class-eq-LETTER.true).0
 
 pub returns-then-class-eq-LETTER : goal.returns-then-class-eq-LETTER
 returns-then-class-eq-LETTER c =
-    name_ends c.args.text.now c.args.at c.args.class c.requires.begun _ c.if-class-eq-LETTER.true c.name_end.ensures
+    name_ends c.args.text.now c.args.at c.args.class c.requires _ c.if-class-eq-LETTER.true c.name_end.ensures
 
 pub number_at-n-requires : goal.number_at-n-requires
 number_at-n-requires c =
-    let q = digit_there c.args.text.now c.args.at c.args.class c.requires.begun c.if-class-eq-DIGIT.true in record { at_in_bounds = q.0; at_value = q.1 }
+    let q = digit_there c.args.text.now c.args.at c.args.class c.requires c.if-class-eq-DIGIT.true in record { at_in_bounds = q.0; at_value = q.1 }
 
 pub returns-then-class-eq-DIGIT : goal.returns-then-class-eq-DIGIT
 returns-then-class-eq-DIGIT c =
-    number_ends c.args.text.now c.args.at c.args.class c.requires.begun _ _ c.if-class-eq-DIGIT.true c.number_at-n.ensures
+    number_ends c.args.text.now c.args.at c.args.class c.requires _ _ c.if-class-eq-DIGIT.true c.number_at-n.ensures
 
 pub overflow_add-result : goal.overflow_add-result
 overflow_add-result c =
-    omega (arith, begun_there c.args.text.now c.args.at c.args.class c.requires.begun)
+    omega (arith, begun_there c.args.text.now c.args.at c.args.class c.requires)
 
 pub returns-then-class-eq-DOLLAR : goal.returns-then-class-eq-DOLLAR
 returns-then-class-eq-DOLLAR c =
-    dollar_ends c.args.text.now c.args.at c.args.class c.requires.begun c.if-class-eq-DOLLAR.true
+    dollar_ends c.args.text.now c.args.at c.args.class c.requires c.if-class-eq-DOLLAR.true
 
 pub mark_at-w-requires : goal.mark_at-w-requires
 mark_at-w-requires c =
-    let q = mark_bounds c.args.text.now c.args.at c.args.class c.requires.begun c.if-class-eq-LETTER.false c.if-class-eq-DIGIT.false c.if-class-eq-DOLLAR.false in record { classes_value = c.requires.classes_value; marks_value = c.requires.marks_value; first_value = c.requires.begun.class_is; le_first = q.0; first_bound = q.1 }
+    let q = mark_bounds c.args.text.now c.args.at c.args.class c.requires c.if-class-eq-LETTER.false c.if-class-eq-DIGIT.false c.if-class-eq-DOLLAR.false in record { first_value = c.requires.class_is; le_first = q.0; first_bound = q.1 }
 
 pub overflow_add-result-2 : goal.overflow_add-result-2
 overflow_add-result-2 c = omega (arith, c.mark_at-w.ensures.inside)
@@ -42,6 +42,6 @@ returns c =
       kind = _;
       size = _;
       extent = _;
-      word = mark_word c.args.text.now c.args.at c.args.class c.requires.begun c.if-class-eq-LETTER.false c.if-class-eq-DIGIT.false c.if-class-eq-DOLLAR.false _ _ _ c.mark_at-w.ensures;
+      word = mark_word c.args.text.now c.args.at c.args.class c.requires c.if-class-eq-LETTER.false c.if-class-eq-DIGIT.false c.if-class-eq-DOLLAR.false _ _ _ c.mark_at-w.ensures;
       ends = refl;
     }

@@ -9,12 +9,6 @@ returns-then-e c = entered_known _ _ _ _ _ _ _ _ _ c.if-e.true c.enter-e.ensures
 pub outside_step-requires : goal.outside_step-requires
 outside_step-requires c =
     let b = entered_begun _ _ _ _ _ _ _ _ _ c.if-e.false c.enter-e.ensures in record {
-      lent = record {
-        classes_are = c.requires.classes_value;
-        marks_are = c.requires.marks_value;
-        slots_are = c.requires.slots_value;
-        keywords_are = c.requires.keywords_value;
-      };
       in_text = b.within;
       roomy = record { texts = c.requires.used.texts; errors = b.few };
     }

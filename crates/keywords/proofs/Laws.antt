@@ -3,10 +3,10 @@ use mathlib.Core.Path.{◌≡◌, refl, sym, ◌∙◌, ap, subst}
 use mathlib.Core.Bool.{Bool, true, false, ◌&&◌, ◌||◌, not, false≢true, true≢false}
 use mathlib.Core.Logic.{⊎_elim}
 use mathlib.Core.List.{List, [], ◌∷◌}
-use Prim.Native.Nat.{ℕ, zero, suc, ◌+◌, ◌-◌, ◌*◌, ◌/◌, ◌%◌, ◌≤◌, ◌<◌}
+use Prim.Native.Nat.{ℕ, zero, suc, ◌+◌, ◌-◌, ◌≤◌, ◌<◌}
 use lib.Dec.{leb, ltb}
-use lib.ListN.{length, get_or, take}
-use lib.Seq.{slice, length-slice, get_or-drop, get_or-take, ext_get_or}
+use lib.ListN.{length, get_or}
+use lib.Seq.{ext_get_or}
 use native.Mathlib.Omega.{arith}
 use native.Mathlib.Numerals.{add-one}
 use borrow.Author.Tests.{leb-true, lt-ltb, le-ltb, eqb-true, eq-eqb, ne_eqb, not-true, ltb-true}
@@ -150,23 +150,6 @@ kind_plain t = go (same_text t (word_by t)) refl
     go true e = rw (kind_same t e) (row_facts (row_of (slot_of t)) (row_bound (slot_of t))).2
     go false e = rw (kind_none t e)
 
--- ── A name in a text ──
-
-pub slice_at : (s : List ℕ) (from to i : ℕ) → to ≤ length s → from + i < to → get_or (slice from to s) i 0 ≡ get_or s (from + i) 0
-slice_at s from to i h k = get_or-drop from (take to s) i 0 ∙ get_or-take to s (from + i) 0 k
-
-pub slot_is : (s : List ℕ) (from to n : ℕ) → n ≡ to - from → from < to → to ≤ length s
-    → (get_or s from 0 + 2 * get_or s (from + n / 2) 0 + 33 * get_or s (to - 1) 0 + 42 * n) % 256 ≡ slot_of (slice from to s)
-unfolding slot_of
-slot_is s from to n e f h =
-    let l : length (slice from to s) ≡ n = length-slice from to s h ∙ sym e in
-    let m : from + (n - 1) ≡ to - 1 = omega arith in
-    let z : from + 0 ≡ from = omega arith in
-    let a = slice_at s from to 0 h (omega arith) in
-    let b = slice_at s from to (n / 2) h (omega arith) in
-    let d = slice_at s from to (n - 1) h (omega arith) in
-    rw (l, a, b, d, m, z)
-
 -- ── The comparison with a row ──
 
 pub pick_in : (i n : ℕ) → i < n → i ≡ pick i n
@@ -187,59 +170,55 @@ all_below_lem f zero h = refl
 all_below_lem f (suc n) h = rw (h n (omega arith)) (all_below_lem f n (λ k l. h k (omega arith)))
 
 -- The comparison at one place.
-unfoldable pub same_at : List ℕ → ℕ → ℕ → ℕ → ℕ → Bool
-same_at s from n row i = get_or s (from + pick i n) 0 is keyword_entry row (pick i n + 1)
+unfoldable pub same_at : Text → ℕ → ℕ → Bool
+same_at t row i = get_or t (pick i (length t)) 0 is keyword_entry row (pick i (length t) + 1)
 
-module _ (s : List ℕ) (from n row : ℕ) (h : row < 60) (some : 1 ≤ n) (l : length (letters_of row) ≡ n) (fits : from + n ≤ length s) where
-  abbrev T : Text
-  T = slice from (from + n) s
-
-  size : length T ≡ n
-  size = length-slice from (from + n) s fits ∙ omega arith
-
-  letter : (k : ℕ) → k < n → keyword_entry row (k + 1) ≡ get_or (letters_of row) k 0
+module _ (t : Text) (row : ℕ) (h : row < 60) (some : 0 < length t) (l : length (letters_of row) ≡ length t) where
+  letter : (k : ℕ) → k < length t → keyword_entry row (k + 1) ≡ get_or (letters_of row) k 0
   letter k g = let b = letters_short row h in entry_letter row k (omega arith)
 
-  byte : (k : ℕ) → k < n → get_or T k 0 ≡ get_or s (from + k) 0
-  byte k g = slice_at s from (from + n) k fits (omega arith)
-
-  all_same : T ≡ letters_of row → (i : ℕ) → same_at s from n row i ≡ true
+  all_same : t ≡ letters_of row → (i : ℕ) → same_at t row i ≡ true
   unfolding same_at
   all_same e i =
-      let p = pick_less i n some in
-      eq-eqb (get_or s (from + pick i n) 0) (keyword_entry row (pick i n + 1))
-      (sym (byte (pick i n) p) ∙ (ap (λ (t : Text). get_or t (pick i n) 0) e ∙ sym (letter (pick i n) p)))
+      let p = pick_less i (length t) some in
+      eq-eqb (get_or t (pick i (length t)) 0) (keyword_entry row (pick i (length t) + 1))
+      (ap (λ (u : Text). get_or u (pick i (length t)) 0) e ∙ sym (letter (pick i (length t)) p))
 
-  same_all : ((k : ℕ) → k < 9 → same_at s from n row k ≡ true) → T ≡ letters_of row
+  same_all : ((k : ℕ) → k < 9 → same_at t row k ≡ true) → t ≡ letters_of row
   unfolding same_at
-  same_all f = ext_get_or 0 T (letters_of row) (size ∙ sym l) each
+  same_all f = ext_get_or 0 t (letters_of row) (sym l) each
     where
-      each : (k : ℕ) → k < length T → get_or T k 0 ≡ get_or (letters_of row) k 0
+      each : (k : ℕ) → k < length t → get_or t k 0 ≡ get_or (letters_of row) k 0
       each k g =
-          let z = size in
           let b = letters_short row h in
-          let p : k < n = omega arith in
-          let q = eqb-true (get_or s (from + pick k n) 0) (keyword_entry row (pick k n + 1)) (f k (omega arith)) in
-          byte k p ∙ ((rw (← (pick_in k n p)) at q) ∙ letter k p)
+          let q = eqb-true (get_or t (pick k (length t)) 0) (keyword_entry row (pick k (length t) + 1)) (f k (omega arith)) in
+          (rw (← (pick_in k (length t) g)) at q) ∙ letter k g
 
-  pub same_is : all_below (same_at s from n row) 9 ≡ same_text T (letters_of row)
-  same_is = go (all_below (same_at s from n row) 9) refl
+  pub same_is : all_below (same_at t row) 9 ≡ same_text t (letters_of row)
+  same_is = go (all_below (same_at t row) 9) refl
     where
-      go : (b : Bool) → all_below (same_at s from n row) 9 ≡ b → b ≡ same_text T (letters_of row)
-      go true e = sym (rw (same_all (below (same_at s from n row) 9 e)) (same_refl (letters_of row)))
+      go : (b : Bool) → all_below (same_at t row) 9 ≡ b → b ≡ same_text t (letters_of row)
+      go true e = sym (rw (same_all (below (same_at t row) 9 e)) (same_refl (letters_of row)))
       go false e =
-          sym (not_same T (letters_of row)
-          (λ q. absurd (false≢true (sym e ∙ all_below_lem (same_at s from n row) 9 (λ k _. all_same q k)))))
+          sym (not_same t (letters_of row)
+          (λ q. absurd (false≢true (sym e ∙ all_below_lem (same_at t row) 9 (λ k _. all_same q k)))))
 
 -- One place more.
-pub same_step : (s : List ℕ) (from n row i k v : ℕ) (b : Bool) → b ≡ all_below (same_at s from n row) i → k ≡ pick i n
-    → v ≡ keyword_entry row (k + 1) → (get_or s (from + k) 0 is v && b) ≡ all_below (same_at s from n row) (i + 1)
+pub same_step : (t : Text) (row i k v : ℕ) (b : Bool) → b ≡ all_below (same_at t row) i → k ≡ pick i (length t)
+    → v ≡ keyword_entry row (k + 1) → (get_or t k 0 is v && b) ≡ all_below (same_at t row) (i + 1)
 unfolding all_below same_at
-same_step s from n row i k v b e p q = rw (add-one i, e, q, p)
+same_step t row i k v b e p q = rw (add-one i, e, q, p)
 
 -- ── The kind of a name, by the row that its slot leads to ──
 
+pub slot_less : (t : Text) → slot_of t < 256
+unfolding slot_of
+slot_less t = omega arith
+
 module _ (t : Text) (row : ℕ) (q : row ≡ row_of (slot_of t)) where
+  pub row_less : row < 60
+  row_less = rw q (row_bound (slot_of t))
+
   -- A word of another length.
   pub kind_other : (length (letters_of row) ≡ length t → ⊥) → Ident ≡ lookup_keyword t
   kind_other n =
@@ -247,7 +226,7 @@ module _ (t : Text) (row : ℕ) (q : row ≡ row_of (slot_of t)) where
 
   pub kind_long : 9 < length t → Ident ≡ lookup_keyword t
   kind_long h =
-      let b = letters_short row (rw q (row_bound (slot_of t))) in
+      let b = letters_short row row_less in
       kind_other (λ e. omega arith)
 
   pub kind_found : same_text t (letters_of row) ≡ true → kind_of row ≡ lookup_keyword t
@@ -255,43 +234,3 @@ module _ (t : Text) (row : ℕ) (q : row ≡ row_of (slot_of t)) where
 
   pub kind_missed : same_text t (letters_of row) ≡ false → Ident ≡ lookup_keyword t
   kind_missed e = sym (kind_none t (rw q at e))
-
-pub slot_less : (t : Text) → slot_of t < 256
-unfolding slot_of
-slot_less t = omega arith
-
--- The cases of a name that stands in a text; `n` is its length.
-module _ (s : List ℕ) (from to n : ℕ) (h : to ≤ length s) (f : from < to) (e : n ≡ to - from) where
-  abbrev Name : Text
-  Name = slice from to s
-
-  long : length Name ≡ n
-  long = length-slice from to s h ∙ sym e
-
-  abbrev Row : ℕ → Type 0
-  Row row = row ≡ row_of (slot_of Name)
-
-  pub name_row : (row : ℕ) → Row row → row < 60
-  name_row row q = rw q (row_bound (slot_of Name))
-
-  pub name_long : 9 < n → Ident ≡ lookup_keyword Name
-  name_long g = let z = long in kind_long Name (row_of (slot_of Name)) refl (omega arith)
-
-  -- `k` is the row's first entry, the length of its word.
-  pub name_sized : (row k : ℕ) → k ≡ keyword_entry row 0 → k ≡ n → length (letters_of row) ≡ n
-  name_sized row k q g = sym (entry_length row) ∙ (sym q ∙ g)
-
-  pub name_other : (row k : ℕ) → Row row → k ≡ keyword_entry row 0 → (k ≡ n → ⊥) → Ident ≡ lookup_keyword Name
-  name_other row k r q g = kind_other Name row r (λ z. g (q ∙ (entry_length row ∙ (z ∙ long))))
-
-  at_end : slice from (from + n) s ≡ Name
-  at_end = let z : from + n ≡ to = omega arith in rw z
-
-  -- `same` tells whether the row's word is the name.
-  pub name_found : (row k : ℕ) (same : Bool) → Row row → k ≡ keyword_entry row 10
-      → same ≡ same_text (slice from (from + n) s) (letters_of row) → same ≡ true → k ≡ lookup_keyword Name
-  name_found row k same r q g t = q ∙ (entry_kind row ∙ kind_found Name row r (rw at_end at (sym g ∙ t)))
-
-  pub name_missed : (row : ℕ) (same : Bool) → Row row
-      → same ≡ same_text (slice from (from + n) s) (letters_of row) → same ≡ false → Ident ≡ lookup_keyword Name
-  name_missed row same r g t = kind_missed Name row r (rw at_end at (sym g ∙ t))

@@ -1,5 +1,5 @@
 -- Laws of the table of marks: what `parse_mark` finds, by the classes of the first and the next character. Assumes nothing.
-use Rattle.std.specs.Prelude.{if◌then◌else◌}
+use Rattle.std.specs.Prelude.{Some, None, if◌then◌else◌}
 use mathlib.Core.Path.{◌≡◌, refl, sym, ◌∙◌, ap, subst}
 use mathlib.Core.Bool.{Bool, true, false, ◌&&◌, not, false≢true, true≢false}
 use mathlib.Core.Logic.{⊎_elim}
@@ -28,8 +28,8 @@ use Rattle.lexemes.specs.Words.{word_text, WordAt}
 use Rattle.lexemes.proofs.Lists.{rows_at, all_below, below}
 use Rattle.lexemes.proofs.Words.{word_of, text_plain, end_word}
 use Rattle.classes.specs.Classes.{OTHER, mark_chars, place_from, class_of}
-use Rattle.classes.proofs.Classes.{class_low, class_high}
-use Rattle.marks.specs.Marks.{found_or, char_of, column_of, kind_in, pair_kind, third_kind, mark_table}
+use Rattle.classes.proofs.Laws.{class_low, class_high}
+use Rattle.marks.specs.Marks.{found_or, found_of, char_of, column_of, kind_in, pair_kind, third_kind, mark_table}
 
 -- ── Look-ups ──
 
@@ -75,9 +75,9 @@ marks_good : all_rows good_row MARKS ≡ true
 unfolding all_rows good_row MARKS one_of seconds within
 marks_good = refl
 
--- The kinds of two and of three marks have no spelling of their own, and 0 is none of them.
+-- The kinds of two and of three marks have no spelling of their own.
 unfoldable good_third : ℕ → ℕ → Bool
-good_third k t = not (k is DoubleColonT) && not (t is DoubleColonT) && not (t is 0)
+good_third k t = not (k is DoubleColonT) && not (t is DoubleColonT)
 
 thirds_good : all_rows good_third THIRDS ≡ true
 unfolding all_rows good_third THIRDS
@@ -330,8 +330,7 @@ module _ (s : List ℕ) (at : ℕ) (r : Row) (e : lookup (get_or s at 0) MARKS �
       plains : ((k is DoubleColonT) ≡ false) × ((t is DoubleColonT) ≡ false)
       unfolding good_third
       plains =
-          let p = and_both (not (k is DoubleColonT) && not (t is DoubleColonT)) (not (t is 0)) (lookup_all good_third THIRDS thirds_good k t q) in
-          let x = and_both (not (k is DoubleColonT)) (not (t is DoubleColonT)) p.0 in
+          let x = and_both (not (k is DoubleColonT)) (not (t is DoubleColonT)) (lookup_all good_third THIRDS thirds_good k t q) in
           (not-true (k is DoubleColonT) x.0, not-true (t is DoubleColonT) x.1)
 
       short_word : next (exactly d) (chars_at s (at + 2)) ≡ false → WordAt s at (parse_mark c rest) k 2 2
@@ -368,23 +367,21 @@ unfolding is_some
 some_row none e = absurd (false≢true e)
 some_row (some r) e = (r, refl)
 
-third_none : (k : ℕ) → third_kind k ≡ 0 → lookup k THIRDS ≡ none
-unfolding third_kind found_or good_third
-third_none k h = go (lookup k THIRDS) refl h
+third_none : (k : ℕ) → None ≡ third_kind k → lookup k THIRDS ≡ none
+unfolding third_kind found_of
+third_none k e = go (lookup k THIRDS) e
   where
-    go : (o : Option ℕ) → lookup k THIRDS ≡ o → found_or 0 o ≡ 0 → o ≡ none
-    go none q h = refl
-    go (some t) q h =
-        let p = and_both (not (k is DoubleColonT) && not (t is DoubleColonT)) (not (t is 0)) (lookup_all good_third THIRDS thirds_good k t q) in
-        absurd (true≢false (sym (eq-eqb t 0 h) ∙ not-true (t is 0) p.1))
+    go : (o : Option ℕ) → None ≡ found_of o → o ≡ none
+    go none e = refl
+    go (some t) e = let z : ◌≡◌ {A = ℕ} 0 1 = cc in absurd (omega arith)
 
-third_some : (k : ℕ) → (third_kind k ≡ 0 → ⊥) → lookup k THIRDS ≡ some (third_kind k)
-unfolding third_kind found_or
-third_some k n = go (lookup k THIRDS) n
+third_some : (k t : ℕ) → Some t ≡ third_kind k → lookup k THIRDS ≡ some t
+unfolding third_kind found_of
+third_some k t e = go (lookup k THIRDS) e
   where
-    go : (o : Option ℕ) → (found_or 0 o ≡ 0 → ⊥) → o ≡ some (found_or 0 o)
-    go none n = absurd (n refl)
-    go (some t) n = refl
+    go : (o : Option ℕ) → Some t ≡ found_of o → o ≡ some t
+    go none e = let z : ◌≡◌ {A = ℕ} 0 1 = cc in absurd (omega arith)
+    go (some x) e = cc
 
 -- `x` is the next byte's class.
 module _ (s : List ℕ) (at first lone x kind : ℕ) (q : first ≡ class_of (get_or s at 0)) (h : 1 ≤ first) (l : first ≤ 25)
@@ -424,26 +421,23 @@ module _ (s : List ℕ) (at first lone x kind : ℕ) (q : first ≡ class_of (ge
     two_found : found s at R its_row.1 ≡ some kind
     two_found = found_some s at R its_row.1 kind (sym kind_is) (λ e. n (e ∙ sym lone_is))
 
-    pub two_word : (t : ℕ) → t ≡ third_kind kind → t ≡ 0 → At kind 2 2
-    two_word t e z = pair_word s at R its_row.1 kind two_found (third_none kind (sym e ∙ z))
+    pub two_word : None ≡ third_kind kind → At kind 2 2
+    two_word e = pair_word s at R its_row.1 kind two_found (third_none kind e)
 
     -- `z` is the next byte.
     module _ (z : ℕ) (w : z ≡ get_or s (at + 1) 0) where
       pub second_letter : Letter z
       second_letter = let v = second s at R its_row.1 kind two_found in (omega arith, omega arith)
 
-      module _ (t : ℕ) (e : t ≡ third_kind kind) (m : t ≡ 0 → ⊥) where
-        third_found : lookup kind THIRDS ≡ some t
-        third_found = third_some kind (λ u. m (e ∙ u)) ∙ ap some (sym e)
-
+      module _ (t : ℕ) (e : Some t ≡ third_kind kind) where
         looked : (v : Bool) → next (exactly z) (chars_at s (at + 2)) ≡ v → next (exactly (get_or s (at + 1) 0)) (chars_at s (at + 2)) ≡ v
         looked v u = ap (λ (c : ℕ). next (exactly c) (chars_at s (at + 2))) (sym w) ∙ u
 
         pub third_word : next (exactly z) (chars_at s (at + 2)) ≡ true → At t 3 3
-        third_word u = three_word s at R its_row.1 kind two_found t third_found (looked true u)
+        third_word u = three_word s at R its_row.1 kind two_found t (third_some kind t e) (looked true u)
 
         pub third_not : next (exactly z) (chars_at s (at + 2)) ≡ false → At kind 2 2
-        third_not u = short_word s at R its_row.1 kind two_found t third_found (looked false u)
+        third_not u = short_word s at R its_row.1 kind two_found t (third_some kind t e) (looked false u)
 
 -- ── Marks that stand alone, whatever follows ──
 
@@ -494,16 +488,3 @@ column_own k h = rw (le-leb k 11 h)
 pub column_none : (k : ℕ) → 11 < k → 0 ≡ column_of k
 unfolding column_of
 column_none k h = rw (lt-leb k 11 h)
-
--- The marks that a third one goes with.
-pub third_is : (k : ℕ) → third_kind k ≡ (if k is 94 then 125 else if k is 95 then 96 else if k is 116 then 117 else 0)
-unfolding third_kind lookup THIRDS found_or
-third_is k = go (k is 94) (k is 95) (k is 116)
-  where
-    go : (x y z : Bool)
-        → found_or 0 (if x then some 125 else if y then some 96 else if z then some 117 else none)
-        ≡ (if x then 125 else if y then 96 else if z then 117 else 0)
-    go true y z = refl
-    go false true z = refl
-    go false false true = refl
-    go false false false = refl

@@ -1,6 +1,6 @@
 -- `mark_at` meets its contract. Assumes nothing.
-use Rattle.marks.proofs.Marks.{delimiter_word}
-use Rattle.marks.proofs.mark_at.Goals as goal
+use Rattle.marks.proofs.Laws.{delimiter_word}
+use Rattle.marks.proofs.Marks.mark_at.Goals as goal
 
 pub returns-then-first-ge-DELIMITER : goal.returns-then-first-ge-DELIMITER
 returns-then-first-ge-DELIMITER c =
