@@ -9,6 +9,10 @@ use Rattle.output.specs.Writing.{Put}
 unfoldable pub line_text : ℕ → Text → Text
 line_text k l = if is_empty l then [] else (replicate k LF ++ l)
 
+-- The largest number of the code.
+abbrev pub LARGEST : ℕ
+LARGEST = 0xFFFFFFFFFFFFFFFF
+
 -- The line feeds that wait after a line, by whether it is empty: none before the first line that is not, one after such a line, and
 -- one more after each empty line.
 unfoldable pub feeds_after : ℕ → Bool → ℕ

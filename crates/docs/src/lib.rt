@@ -2,14 +2,13 @@
 // comment's marks and writes the comment's text into a lent buffer while it walks.
 #![tactic(auto)]
 
-ghost use Rattle.std.specs.Prelude.{◌≡◌, ◌+◌, ◌≤◌, length, replicate};
+ghost use Rattle.std.specs.Prelude.{◌≡◌, ◌+◌, ◌≤◌, ◌<◌, length, replicate};
 ghost use Rattle.std.proofs.Math.Seq.{slice};
-ghost use Rattle.characters.specs.Choice.{◌is◌};
 ghost use Rattle.characters.specs.Utf8.{chars_of};
 ghost use Rattle.rules.specs.Text.{LF};
 ghost use Rattle.rules.specs.Docs.{trim, clean_doc};
 ghost use Rattle.output.specs.Writing.{Put, PLACES};
-ghost use Rattle.docs.specs.Texts.{line_text, feeds_after, Written};
+ghost use Rattle.docs.specs.Texts.{LARGEST, line_text, feeds_after, Written};
 
 use doc_lines::Line;
 
@@ -40,12 +39,13 @@ fn put_line(part: &[u8], l: Line, feeds: usize, texts: &mut [u8], at: usize) -> 
     output::put_bytes(&part[l.from..l.to], texts, place)
 }
 
-// The line feeds that wait after a line.
-fn feeds_after(feeds: usize, l: Line) -> usize
-    requires { feeds ≤ PLACES }
-    ensures { result ≡ feeds_after feeds (l.from is l.to) }
+// The line feeds that wait after a line, by whether it is empty.
+#[tactic(auto, unfolding(crate::specs::Texts::feeds_after))]
+pub fn feeds_after(feeds: usize, empty: bool) -> usize
+    requires { feeds < LARGEST }
+    ensures { result ≡ feeds_after feeds empty }
 {
-    if l.from != l.to {
+    if !empty {
         return 1;
     }
     if feeds == 0 {
@@ -78,7 +78,7 @@ pub fn clean_doc(part: &[u8], texts: &mut [u8], at: usize) -> usize
         if l.last {
             return end;
         }
-        feeds = feeds_after(feeds, l);
+        feeds = feeds_after(feeds, l.from == l.to);
         place = l.next;
     }
 }

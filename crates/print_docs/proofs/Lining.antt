@@ -1,6 +1,6 @@
 -- Doc texts written: one of one line at once, a longer one part by part. Assumes nothing.
 use mathlib.Core.Path.{◌≡◌, sym, ◌∙◌, ap, subst}
-use mathlib.Core.Bool.{Bool, true, false, ◌||◌, or-true}
+use mathlib.Core.Bool.{true, false, ◌||◌, or-true}
 use mathlib.Core.List.{List, [], ◌∷◌, ◌++◌, append-nil, append_assoc}
 use Prim.Native.Nat.{ℕ, ◌+◌, ◌*◌, ◌≤◌}
 use native.Mathlib.Omega.{arith}
@@ -17,11 +17,10 @@ use Rattle.prints.specs.Writing.{starred}
 use Rattle.prints.proofs.Stepwise.{doc_starred}
 use Rattle.print_escapes.proofs.Bare.{put_same}
 use Rattle.text_parts.specs.Parts.{part_bytes, PartWithin}
-use Rattle.text_parts.specs.Lines.{text_left, left_size, GoodCursor, Begun, PartBefore, GoesOn, NextBy, NextAt}
+use Rattle.text_parts.specs.Lines.{text_left, left_size, GoodCursor, Begun, PartBefore, GoesOn}
 use Rattle.text_parts.specs.declared.Part.{Part}
 use Rattle.text_parts.specs.declared.Part.TheVariants as part
 use Rattle.text_parts.specs.declared.lines.Cursor.{Cursor}
-use Rattle.text_parts.specs.declared.lines.Step.{Step}
 use Rattle.text_parts.proofs.Walking.{begin_small}
 use Rattle.print_docs.specs.Docs.{LinePart}
 use Rattle.print_docs.proofs.Starred.{feed_append, feedless_part, starred_append, starred_plain, starred_feed, starred_none, starred_small}
@@ -88,29 +87,23 @@ line_part s d (part.Bytes from to) (h, i) (e, w) = (omega arith, i, e)
 line_part s d (part.Char c) h (e, w) = e
 line_part s d part.Nothing h k = tt
 
-pub step_goes : (s : List ℕ) (c : Cursor) (n : Step) → NextAt s c n → n.over ≡ false → GoesOn s c n
-step_goes s c n k e = subst (λ (b : Bool). NextBy b s c n) e k
-
-pub step_over : (s : List ℕ) (c : Cursor) (n : Step) → NextAt s c n → n.over ≡ true → text_left s c ≡ []
-step_over s c n k e = subst (λ (b : Bool). NextBy b s c n) e k
-
-pub goes_part : (s : List ℕ) (c : Cursor) (n : Step) → GoesOn s c n → LinePart s n.part
-goes_part s c n g = line_part s n.cursor n.part g.inside g.kind
+pub goes_part : (s : List ℕ) (c : Cursor) (x : Part) (d : Cursor) → GoesOn s c x d → LinePart s x
+goes_part s c x d g = line_part s d x g.inside g.kind
 
 module _ (s old b : List ℕ) (at : ℕ) (c d : Cursor) (p : ℕ) (w : Lining s old b at c d p) where
   -- No place is far behind the first.
   pub line_small : p ≤ at + 3 * left_size s c
   line_small = omega (arith, w.writing.used, starred_small (text_left s c))
 
-  pub line_more : (n : Step) (e : List ℕ) (r : ℕ) → GoesOn s d n → Put b e p (starred (part_bytes s n.part)) r
-      → Lining s old e at c n.cursor r
-  line_more n e r g q =
-      let f = ap starred g.text ∙ starred_append (part_bytes s n.part) (text_left s n.cursor) in
+  pub line_more : (x : Part) (f : Cursor) (e : List ℕ) (r : ℕ) → GoesOn s d x f → Put b e p (starred (part_bytes s x)) r
+      → Lining s old e at c f r
+  line_more x f e r g q =
+      let k = ap starred g.text ∙ starred_append (part_bytes s x) (text_left s f) in
       record {
         good = g.good;
         writing =
-            write_more old b e at p r (starred (part_bytes s n.part)) (starred (text_left s n.cursor)) (starred (text_left s c))
-            (subst (λ (l : List ℕ). Writing old b at p l (starred (text_left s c))) f w.writing)
+            write_more old b e at p r (starred (part_bytes s x)) (starred (text_left s f)) (starred (text_left s c))
+            (subst (λ (l : List ℕ). Writing old b at p l (starred (text_left s c))) k w.writing)
             q;
       }
 
@@ -133,28 +126,28 @@ module _ (s : List ℕ) (c : Cursor) (b : Begun s c) where
   block_put x y at r t e p =
       put_same x y at r (doc whole ++ (LF ∷ [])) (doc t ++ (LF ∷ [])) (ap (λ (l : Text). doc l ++ (LF ∷ [])) (sym b.text ∙ e)) p
 
-  module _ (n : Step) (g : GoesOn s c n) where
-    first_line_lem : n.part ≡ part.Bytes c.from c.to
+  module _ (x : Part) (d : Cursor) (g : GoesOn s c x d) where
+    first_line_lem : x ≡ part.Bytes c.from c.to
     first_line_lem = g.line b.none
 
-    behind_first : text_left s c ≡ slice c.from c.to s ++ text_left s n.cursor
-    behind_first = g.text ∙ ap (λ (x : Part). part_bytes s x ++ text_left s n.cursor) first_line_lem
+    behind_first : text_left s c ≡ slice c.from c.to s ++ text_left s d
+    behind_first = g.text ∙ ap (λ (y : Part). part_bytes s y ++ text_left s d) first_line_lem
 
-    kind : PartBefore s n.cursor (part.Bytes c.from c.to)
-    kind = subst (PartBefore s n.cursor) first_line_lem g.kind
+    kind : PartBefore s d (part.Bytes c.from c.to)
+    kind = subst (PartBefore s d) first_line_lem g.kind
 
-    pub one_line : text_left s n.cursor ≡ [] → text_left s c ≡ slice c.from c.to s
+    pub one_line : text_left s d ≡ [] → text_left s c ≡ slice c.from c.to s
     one_line e = behind_first ∙ (ap (λ (l : Text). slice c.from c.to s ++ l) e ∙ append-nil (slice c.from c.to s))
 
     pub line_feedless : one_of (slice c.from c.to s) LF ≡ false
     line_feedless = kind.0
 
-    pub more_lines_lem : (m : Step) → GoesOn s n.cursor m → one_of (text_left s c) LF ≡ true
+    pub more_lines_lem : (y : Part) (e : Cursor) → GoesOn s d y e → one_of (text_left s c) LF ≡ true
     unfolding one_of
-    more_lines_lem m h =
-        let f : text_left s n.cursor ≡ LF ∷ text_left s m.cursor
-        = h.text ∙ (ap (λ (x : Part). part_bytes s x ++ text_left s m.cursor) (h.feed (kind.1 h.here))
-        ∙ ap (λ (l : Text). l ++ text_left s m.cursor) (encode_one LF (omega arith))) in
+    more_lines_lem y e h =
+        let f : text_left s d ≡ LF ∷ text_left s e
+        = h.text ∙ (ap (λ (z : Part). part_bytes s z ++ text_left s e) (h.feed (kind.1 h.here))
+        ∙ ap (λ (l : Text). l ++ text_left s e) (encode_one LF (omega arith))) in
         ap (λ (l : Text). one_of l LF) behind_first
-        ∙ (feed_append (slice c.from c.to s) (text_left s n.cursor)
+        ∙ (feed_append (slice c.from c.to s) (text_left s d)
         ∙ (ap (λ (l : Text). one_of (slice c.from c.to s) LF || one_of l LF) f ∙ or-true (one_of (slice c.from c.to s) LF)))

@@ -66,15 +66,11 @@ fn put_lines(part: &[u8], c: Cursor, out: &mut [u8], at: usize) -> usize
 {
     let mut cursor = c;
     let mut place = at;
-    loop {
-        let n = lines::next(part, cursor);
-        if n.over {
-            return place;
-        }
-        let x = n.part;
+    while let Some((x, behind)) = lines::next(part, cursor) {
         place = put_part(part, x, out, place);
-        cursor = n.cursor;
+        cursor = behind;
     }
+    place
 }
 
 // A doc text of more than one line.
@@ -110,13 +106,12 @@ pub fn put_block_doc(part: &[u8], out: &mut [u8], at: usize) -> usize
     ensures { Put out.old out.new at (doc (encode (clean_doc (chars_of part.now))) ++ (LF ∷ [])) result }
 {
     let c = lines::begin(part);
-    let first = lines::next(part, c);
-    if first.over {
+    let Some((_, behind)) = lines::next(part, c) else {
         return put_short(part, 0, 0, out, at);
-    }
-    let second = lines::next(part, first.cursor);
-    if second.over {
+    };
+    let second = lines::next(part, behind);
+    let Some(_) = second else {
         return put_short(part, c.from, c.to, out, at);
-    }
+    };
     put_long(part, c, out, at)
 }

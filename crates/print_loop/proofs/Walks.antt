@@ -1,4 +1,5 @@
 -- A print's loop between two turns. Assumes nothing.
+use Rattle.std.specs.Prelude.{Ok, Err}
 use mathlib.Core.Path.{◌≡◌, refl, sym, ◌∙◌, subst}
 use mathlib.Core.Bool.{Bool, true, false, true≢false}
 use mathlib.Core.List.{List, [], ◌∷◌}
@@ -18,9 +19,10 @@ use Rattle.prints.specs.Print.{print_bytes}
 use Rattle.prints.specs.Records.{quote_at}
 use Rattle.prints.specs.Writing.{outside, write_tokens}
 use Rattle.prints.proofs.Stepwise.{print_tokens}
+use Rattle.text_parts.specs.declared.Flawed.{Flawed}
 use Rattle.print_places.specs.Places.{still, still_of, no_errors, right_from}
-use Rattle.print_loop.specs.declared.Turn.{Turn}
-use Rattle.print_loop.specs.Loops.{FRONT, Goes, Ends, TurnBy, TurnAt, WalkedAt}
+use Rattle.print_places.specs.declared.Written.{Written}
+use Rattle.print_loop.specs.Loops.{FRONT, Goes, Ends, TurnAt, WalkedAt}
 
 -- The text `s` of the script was printed up to the place `from`: `at` bytes are written, and the buffer was `out₀`. What is still to be
 -- written completes the print.
@@ -63,46 +65,31 @@ module _ (script s out₀ out : List ℕ) (from : ℕ) (due : Bool) (at : ℕ) (
   pub walk_front : at ≤ FRONT
   walk_front = omega (arith, y.small, y.within.inside, y.within.size)
 
-  module _ (out' : List ℕ) (t : Turn) (w : TurnAt s from due out out' at t) where
-    as_wrong : t.bad ≡ true → right_from s from ≡ false
-    as_wrong e = subst (λ (b : Bool). TurnBy b t.ended s from due out out' at t) e w
+  -- An error.
+  pub walk_wrong : (out' : List ℕ) (e : Flawed) → TurnAt s from due out out' at (Err e) → WalkedAt script out₀ out' (Err e)
+  walk_wrong out' e w = y.right ∙ w
 
-    known : (d : Bool) → t.bad ≡ false → t.ended ≡ d → TurnBy false d s from due out out' at t
-    known d e f =
-        subst (λ (x : Bool). TurnBy false x s from due out out' at t) f (subst (λ (x : Bool). TurnBy x t.ended s from due out out' at t) e w)
-
-    as_ends : t.bad ≡ false → t.ended ≡ true → Ends s from due out out' at t
-    as_ends e f = known true e f
-
-    as_goes : t.bad ≡ false → t.ended ≡ false → Goes s from due out out' at t
-    as_goes e f = known false e f
-
-    -- An error.
-    pub walk_wrong : t.bad ≡ true → (n : ℕ) → WalkedAt script out₀ out' (record { bytes = n; bad = true })
-    walk_wrong e n = y.right ∙ as_wrong e
-
-    -- An element more.
-    pub walk_more : t.bad ≡ false → t.ended ≡ false → Walking script s out₀ out' t.at t.due t.out
-    walk_more e f =
-        let g = as_goes e f in
+  -- An element more.
+  module _ (out' : List ℕ) (w : Written) (due' : Bool) (g : Goes s from due out out' at w due') where
+    pub walk_more : Walking script s out₀ out' w.at due' w.out
+    walk_more =
         record {
           within = g.within;
           ahead =
-              ahead_step out₀ out at (still s (outside due) from) (print_bytes script) g.bytes (still s (outside t.due) t.at) g.same y.ahead out' t.out
+              ahead_step out₀ out at (still s (outside due) from) (print_bytes script) g.bytes (still s (outside due') w.at) g.same y.ahead out' w.out
               g.put.written g.put.place;
           right = y.right ∙ g.right;
           small = omega (arith, y.small, g.small, g.forth);
         }
 
-    pub walk_forth : t.bad ≡ false → t.ended ≡ false → length s - t.at < length s - from
-    walk_forth e f = let g = as_goes e f in omega (arith, g.forth, g.within.inside)
+    pub walk_forth : length s - w.at < length s - from
+    walk_forth = omega (arith, g.forth, g.within.inside)
 
-    -- All is written.
-    pub walk_end : t.bad ≡ false → t.ended ≡ true → WalkedAt script out₀ out' (record { bytes = t.out; bad = false })
-    walk_end e f =
-        let g = as_ends e f in
-        let (a, b) = ahead_end out₀ out at (still s (outside due) from) (print_bytes script) g.all y.ahead in
-        (no_errors_lem (script_errors script) (y.right ∙ g.right), record { written = g.kept ∙ a; place = g.place ∙ b ∙ zero_plus (length (print_bytes script)) })
-      where
-        zero_plus : (n : ℕ) → n ≡ 0 + n
-        zero_plus n = omega arith
+  -- All is written.
+  pub walk_end : (out' : List ℕ) → Ends s from due out out' → WalkedAt script out₀ out' (Ok at)
+  walk_end out' g =
+      let (a, b) = ahead_end out₀ out at (still s (outside due) from) (print_bytes script) g.all y.ahead in
+      (no_errors_lem (script_errors script) (y.right ∙ g.right), record { written = g.kept ∙ a; place = b ∙ zero_plus (length (print_bytes script)) })
+    where
+      zero_plus : (n : ℕ) → n ≡ 0 + n
+      zero_plus n = omega arith

@@ -7,54 +7,11 @@ ghost use Rattle.bridge.specs.Bridge.{placed, Within};
 ghost use Rattle.output.specs.Writing.{Put, PLACES};
 ghost use Rattle.prints.specs.Writing.{due_space};
 ghost use Rattle.print_places.specs.Places as places;
-ghost use Rattle.print_loop.specs.Loops.{FRONT, turn_of, last_turn, Nothing, LastAt, TurnAt, WalkedAt};
+ghost use Rattle.print_loop.specs.Loops.{FRONT, Nothing, EndAt, TurnAt, WalkedAt};
 
 use marks::Marks;
-use print_steps::Printed;
-
-// A turn of the loop: the place behind what was printed, the place behind its bytes, whether a space is due behind it; `ended` says that
-// nothing is left, `bad` that an error was recorded.
-#[derive(Clone, Copy)]
-pub struct Turn {
-    pub at: usize,
-    pub out: usize,
-    pub due: bool,
-    pub ended: bool,
-    pub bad: bool,
-}
-
-// The bytes of a print, and whether an error was recorded.
-#[derive(Clone, Copy)]
-pub struct Walked {
-    pub bytes: usize,
-    pub bad: bool,
-}
-
-// The turn of an element that was printed.
-fn turn_of(p: Printed) -> Turn
-    ensures { result ≡ turn_of p }
-{
-    Turn {
-        at: p.at,
-        out: p.out,
-        due: p.due,
-        ended: false,
-        bad: p.bad,
-    }
-}
-
-// The last turn.
-fn last(at: usize, out: usize, bad: bool) -> Turn
-    ensures { result ≡ last_turn at out bad }
-{
-    Turn {
-        at,
-        out,
-        due: false,
-        ended: true,
-        bad,
-    }
-}
+use print_places::Written;
+use text_parts::Flawed;
 
 // The space that is due.
 fn put_space(due: bool, out: &mut [u8], at: usize) -> usize
@@ -67,19 +24,19 @@ fn put_space(due: bool, out: &mut [u8], at: usize) -> usize
     at
 }
 
-// Where nothing begins: the end of the text, or a character that is not expected.
-fn end_at(text: &[u8], from: usize, at: usize) -> Turn
+// Where nothing begins: the end of the text, or a character that is not expected, which is an error.
+fn end_at(text: &[u8], from: usize) -> Result<(), Flawed>
     requires within { Within text.now (placed from) }
     requires nothing { Nothing text.now from }
-    ensures { LastAt text.now from at result }
+    ensures { EndAt text.now from result }
 {
     let Some(_) = bridge::look(text, bridge::at_place(from)) else {
-        return last(from, at, false);
+        return Ok(());
     };
-    last(from, at, true)
+    Err(Flawed)
 }
 
-// The next element from a place on, behind a space if one is due.
+// The next element from a place on, behind a space if one is due, and whether a space is due behind it; none where nothing is left.
 fn next(
     marks: &Marks,
     text: &[u8],
@@ -87,26 +44,25 @@ fn next(
     due: bool,
     out: &mut [u8],
     at: usize,
-) -> Turn
+) -> Result<Option<(Written, bool)>, Flawed>
     requires within { Within text.now (placed from) }
     requires at_bound { at ≤ FRONT }
     ensures { TurnAt text.now from due out.old out.new at result }
 {
-    let g = print_skips::skip(&marks.classes, text, from);
+    let g = print_skips::skip(&marks.classes, text, from)?;
     let start = g.at;
-    if g.open {
-        return last(start, at, true);
-    }
     let class = g.class;
     if class == classes::OTHER {
-        return end_at(text, start, at);
+        end_at(text, start)?;
+        return Ok(None);
     }
     let place = put_space(due, out, at);
-    turn_of(print_steps::put_element(marks, text, start, class, out, place))
+    let element = print_steps::put_element(marks, text, start, class, out, place)?;
+    Ok(Some(element))
 }
 
-// The print of a script, as far as the buffer holds it; and where an error was recorded, that.
-pub fn write(script: &[u8], out: &mut [u8]) -> Walked
+// The bytes of the print of a script, as far as the buffer holds it.
+pub fn write(script: &[u8], out: &mut [u8]) -> Result<usize, Flawed>
     requires { accepted script.now ≡ true }
     ensures { WalkedAt script.now out.old out.new result }
 {
@@ -115,22 +71,10 @@ pub fn write(script: &[u8], out: &mut [u8]) -> Walked
     let mut from = 0;
     let mut due = false;
     let mut at = 0;
-    loop {
-        let t = next(&marks, text, from, due, out, at);
-        if t.bad {
-            return Walked {
-                bytes: t.out,
-                bad: true,
-            };
-        }
-        if t.ended {
-            return Walked {
-                bytes: t.out,
-                bad: false,
-            };
-        }
-        from = t.at;
-        at = t.out;
-        due = t.due;
+    while let Some((w, space)) = next(&marks, text, from, due, out, at)? {
+        from = w.at;
+        at = w.out;
+        due = space;
     }
+    Ok(at)
 }

@@ -1,6 +1,6 @@
 -- What is still to be printed from a place on, and what the writers of elements promise each other. Lines and columns play no part in a
 -- print, so all of it goes by places.
-use Rattle.std.specs.Prelude.{◌≡◌, Bool, true, false, List, [], ◌∷◌, ◌++◌, map, ℕ, ◌+◌, ◌*◌, ◌-◌, ◌≤◌, ◌<◌}
+use Rattle.std.specs.Prelude.{◌≡◌, Bool, true, false, List, [], ◌∷◌, ◌++◌, map, ℕ, ◌+◌, ◌*◌, ◌-◌, ◌≤◌, ◌<◌, Result, Ok, Err}
 use Rattle.characters.specs.Utf8.{chars_at}
 use Rattle.rules.specs.Tokens.{TokenizeError}
 use Rattle.rules.specs.Lexer.{Lexed, eof}
@@ -11,6 +11,7 @@ use Rattle.bridge.specs.Bridge.{placed, Within}
 use Rattle.output.specs.Writing.{Put}
 use Rattle.prints.specs.Records.{quote_at}
 use Rattle.prints.specs.Writing.{State, outside, due_space, write_tokens}
+use Rattle.text_parts.specs.declared.Flawed.{Flawed}
 use Rattle.print_places.specs.declared.Written.{Written}
 
 -- What the rules still give from a place on, outside of strings.
@@ -48,9 +49,6 @@ pub record Emits (due' : Bool) (s : List ℕ) (from : ℕ) (out out' : List ℕ)
   pub small : w.out ≤ at + GROWTH * (w.at - from)
 
 -- The element was written, or it has an error.
-abbrev pub EmittedBy : Bool → Bool → List ℕ → ℕ → List ℕ → List ℕ → ℕ → Written → Type 0
-EmittedBy true due' s from out out' at w = right_from s from ≡ false
-EmittedBy false due' s from out out' at w = Emits due' s from out out' at w
-
-abbrev pub EmittedAt : Bool → List ℕ → ℕ → List ℕ → List ℕ → ℕ → Written → Type 0
-EmittedAt due' s from out out' at w = EmittedBy w.bad due' s from out out' at w
+abbrev pub EmittedAt : Bool → List ℕ → ℕ → List ℕ → List ℕ → ℕ → Result Written Flawed → Type 0
+EmittedAt due' s from out out' at (Ok w) = Emits due' s from out out' at w
+EmittedAt due' s from out out' at (Err e) = right_from s from ≡ false

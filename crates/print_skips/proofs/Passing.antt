@@ -37,7 +37,7 @@ use Rattle.skipping.proofs.Skips as skips
 use Rattle.print_places.specs.Places.{lexed_from, no_errors, right_from}
 use Rattle.print_places.proofs.Tokens.{wrong_some, none_still, none_right}
 use Rattle.print_places.proofs.Elements.{within_placed, still_placed, right_placed}
-use Rattle.print_skips.specs.Gaps.{Passed, PastBy, Skipped}
+use Rattle.print_skips.specs.Gaps.{Passed, Skipped}
 
 -- ── One after another ──
 
@@ -116,31 +116,26 @@ module _ (s : List ℕ) (at : ℕ) (w : Within s (placed at)) where
 -- ── Comments ──
 
 module _ (s : List ℕ) (from : ℕ) (c : Closing) (x : PastComment s (placed from) c) where
-  comment_wrong : c.found ≡ false → right_from s from ≡ false
+  pub comment_wrong : c.found ≡ false → right_from s from ≡ false
   unfolding no_errors
   comment_wrong e =
       wrong_some [] (unclosed false UnterminatedBlockComment (placed from) c.at) true (lexed_from s from) (left (Outside c.at) (chars_at s c.at.offset))
       (skips.comment_yields_by s (placed from) c x false e)
       (ap no_errors (unclosed_one false UnterminatedBlockComment (placed from) c.at refl))
 
-  comment_by : (b : Bool) → c.found ≡ b → PastBy b s from c.at.offset
-  comment_by true e = (gap_passed s from c.at (skips.comment_gap s (placed from) c x e), x.forth)
-  comment_by false e = comment_wrong e
-
-  -- By whether it is closed.
-  pub comment_passed : PastBy c.found s from c.at.offset
-  comment_passed = comment_by c.found refl
+  pub comment_passed : c.found ≡ true → Passed s from c.at.offset × (from < c.at.offset)
+  comment_passed e = (gap_passed s from c.at (skips.comment_gap s (placed from) c x e), x.forth)
 
 -- ── The end ──
 
 -- Nothing that is passed stands there.
 pub skipped_all : (s : List ℕ) (from at k : ℕ) → Passed s from at → k ≡ class_of (get_or s at 0) → next is_white (chars_at s at) ≡ false
-    → opens_line (chars_at s at) ≡ false → opens_block (chars_at s at) ≡ false → Skipped s from (record { at = at; class = k; «open» = false })
+    → opens_line (chars_at s at) ≡ false → opens_block (chars_at s at) ≡ false → Skipped s from (record { at = at; class = k })
 skipped_all s from at k x c w l b = record { passed = x; class_is = c; stops = stops_here (chars_at s at) w l b }
 
 -- No comment begins without a slash.
 pub skipped_other : (s : List ℕ) (from at k : ℕ) → Passed s from at → k ≡ class_of (get_or s at 0) → next is_white (chars_at s at) ≡ false
-    → (k ≡ SLASH → ⊥) → Skipped s from (record { at = at; class = k; «open» = false })
+    → (k ≡ SLASH → ⊥) → Skipped s from (record { at = at; class = k })
 skipped_other s from at k x c w d =
     let e : get_or s at 0 ≡ 47 → ⊥ = λ z. d (c ∙ (ap class_of z ∙ slash_class)) in
     let n : next (exactly 47) (chars_at s at) ≡ false = byte_next (exactly 47) (low_is 1 47 (omega arith) (omega arith)) s at ∙ ne_eqb (get_or s at 0) 47 e in

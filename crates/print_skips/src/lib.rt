@@ -8,6 +8,7 @@ ghost use Rattle.print_skips.specs.Gaps.{SomeWhite, BlanksTo, WhiteTo, CommentAt
 
 use characters::space;
 use classes::Classes;
+use text_parts::Flawed;
 use walks::walk;
 
 // Where white space ends: the place, and the class of the byte there.
@@ -15,21 +16,6 @@ use walks::walk;
 pub struct Stop {
     pub at: usize,
     pub class: u8,
-}
-
-// The place behind what was passed, the class of the byte there, and whether the text ran out in it.
-#[derive(Clone, Copy)]
-pub struct Gap {
-    pub at: usize,
-    pub class: u8,
-    pub open: bool,
-}
-
-// A comment that is passed: the place behind it, and whether it is closed; or none.
-#[derive(Clone, Copy)]
-enum Comment {
-    Past(usize, bool),
-    Nothing,
 }
 
 // Past one character of white space, also beyond ASCII; it stays only where there is none.
@@ -79,55 +65,42 @@ fn past_white(classes: &Classes, text: &[u8], from: usize) -> Stop
     }
 }
 
-// The comment at a place.
-fn comment_at(text: &[u8], at: usize) -> Comment
+// The place behind the comment at a place; none where no comment stands there.
+fn comment_at(text: &[u8], at: usize) -> Result<Option<usize>, Flawed>
     requires { Within text.now (placed at) }
     ensures { CommentAt text.now at result }
 {
     if skipping::line_at(text, at) {
         let c = walk::to_byte(text, bridge::along(bridge::at_place(at), 2), b'\n');
         let q = c.at;
-        return Comment::Past(q.offset, true);
+        return Ok(Some(q.offset));
     }
     if skipping::block_at(text, at) {
         let c = walk::to_pair(text, bridge::along(bridge::at_place(at), 2));
+        let open = !c.found;
+        if open {
+            return Err(Flawed);
+        }
         let q = walk::behind_mark(c, 2);
-        return Comment::Past(q.offset, c.found);
+        return Ok(Some(q.offset));
     }
-    Comment::Nothing
+    Ok(None)
 }
 
 // Past white space and comments.
-pub fn skip(classes: &Classes, text: &[u8], from: usize) -> Gap
+pub fn skip(classes: &Classes, text: &[u8], from: usize) -> Result<Stop, Flawed>
     requires { Within text.now (placed from) }
     ensures { SkippedAt text.now from result }
 {
     let mut next = from;
     loop {
         let w = past_white(classes, text, next);
-        let at = w.at;
-        let class = w.class;
-        if class != classes::SLASH {
-            return Gap {
-                at,
-                class,
-                open: false,
-            };
+        if w.class != classes::SLASH {
+            return Ok(w);
         }
-        let Comment::Past(end, closed) = comment_at(text, at) else {
-            return Gap {
-                at,
-                class,
-                open: false,
-            };
+        let Some(end) = comment_at(text, w.at)? else {
+            return Ok(w);
         };
-        if !closed {
-            return Gap {
-                at: end,
-                class,
-                open: true,
-            };
-        }
         next = end;
     }
 }

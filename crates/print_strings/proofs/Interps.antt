@@ -1,4 +1,5 @@
 -- An interpolation as it is written, and what parts it from a `$name` before it. Assumes nothing.
+use Rattle.std.specs.Prelude.{Ok, Err}
 use mathlib.Core.Path.{◌≡◌, refl, sym, ap, ◌∙◌, subst}
 use mathlib.Core.Bool.{Bool, true, false, not, true≢false}
 use mathlib.Core.List.{List, [], ◌∷◌, ◌++◌, append-nil}
@@ -26,6 +27,7 @@ use Rattle.interpolations.specs.Interpolations.{interpolation_at, PastAt, missin
 use Rattle.interpolations.proofs.InterpLaws.{interp_first, text_bytes_lem, past_forth}
 use Rattle.prints.specs.Print.{parting, is_name}
 use Rattle.prints.proofs.Bytewise.{BytesOf, low, high, bytes_of_char}
+use Rattle.text_parts.specs.declared.Flawed.{Flawed}
 use Rattle.print_strings.specs.Strings.{InterpolationBy, InterpolationAt}
 use Rattle.print_strings.specs.declared.Row.{Row}
 
@@ -90,14 +92,10 @@ module _ (s : List ℕ) (p : Position) (w : Within s p) (c : Closing) (x : PastA
   no_brace_missing true e l = append-nil l
   no_brace_missing false e l = absurd (true≢false (sym e))
 
-  module _ (nm b : Bool) (out mid out' : List ℕ) (at place end : ℕ) (u : Put out mid at (parting nm) place)
+  module _ (h : c.found ≡ true) (nm b : Bool) (out mid out' : List ℕ) (at place end : ℕ) (u : Put out mid at (parting nm) place)
       (v : Put mid out' place (slice p.offset c.at.offset s) end) (e : b ≡ next (exactly (ch "{")) (chars_at s (p.offset + 1))) where
-    abbrev r : Row
-    r = record { at = c.at.offset; out = end; named = not b; bad = not c.found }
-
-    by_found : (f : Bool) → c.found ≡ f → InterpolationBy (not f) s p nm out out' at r
-    by_found false h = (c.at, x.same ∙ ap not h, x.reach)
-    by_found true h =
+    interp_by : InterpolationBy s p nm out out' at (Ok (record { at = c.at.offset; out = end; named = not b }))
+    interp_by =
         let l = slice p.offset c.at.offset s in
         let t : encode (interpolation_at s p).text ≡ l = text_bytes_lem s p w c x ∙ no_brace_missing c.found h l in (
           c.at,
@@ -112,36 +110,38 @@ module _ (s : List ℕ) (p : Position) (w : Within s p) (c : Closing) (x : PastA
           },
         )
 
-    interp_by : InterpolationBy (not c.found) s p nm out out' at r
-    interp_by = by_found c.found refl
-
 -- ── By places ──
 
 -- What holds of an interpolation at one position holds at every other at its place.
-module _ (s : List ℕ) (p : Position) (w : Within s p) (nm : Bool) (out out' : List ℕ) (at : ℕ) (r : Row) where
-  interp_moved : (b : Bool) → InterpolationBy b s (placed p.offset) nm out out' at r → InterpolationBy b s p nm out out' at r
-  interp_moved true (e, h, k) =
-      let m = reach_again s (placed p.offset) e p (interpolation_at s p).chars k refl w in
-      (advances p (interpolation_at s p).chars, h, m.0)
-  interp_moved false (e, d, z) =
-      let m = reach_again s (placed p.offset) e p (interpolation_at s p).chars z.reach refl w in (
-        advances p (interpolation_at s p).chars,
-        m.1 ∙ d,
-        record {
-          reach = m.0;
-          shut = z.shut;
-          put = z.put;
-          name = z.name;
-          forth = omega (arith, m.1, z.forth);
-          small = omega (arith, m.1, z.small);
-        },
-      )
+interp_moved : (s : List ℕ) (p : Position) → Within s p → (nm : Bool) (out out' : List ℕ) (at : ℕ) (r : Row)
+    → InterpolationBy s (placed p.offset) nm out out' at (Ok r) → InterpolationBy s p nm out out' at (Ok r)
+interp_moved s p w nm out out' at r (e, d, z) =
+    let m = reach_again s (placed p.offset) e p (interpolation_at s p).chars z.reach refl w in (
+      advances p (interpolation_at s p).chars,
+      m.1 ∙ d,
+      record {
+        reach = m.0;
+        shut = z.shut;
+        put = z.put;
+        name = z.name;
+        forth = omega (arith, m.1, z.forth);
+        small = omega (arith, m.1, z.small);
+      },
+    )
 
-pub interp_at : (s : List ℕ) (from : ℕ) (w : Within s (placed from)) (c : Closing) → PastAt s (placed from) c → (nm b : Bool) (out mid out' : List ℕ)
-    (at place end : ℕ) → Put out mid at (parting nm) place → Put mid out' place (slice from c.at.offset s) end
-    → b ≡ next (exactly (ch "{")) (chars_at s (from + 1))
-    → InterpolationAt s from nm out out' at (record { at = c.at.offset; out = end; named = not b; bad = not c.found })
-interp_at s from w c x nm b out mid out' at place end u v e p d k =
-    let r : Row = record { at = c.at.offset; out = end; named = not b; bad = not c.found } in
-    let h = interp_by s (placed from) w c x nm b out mid out' at place end u v e in
-    interp_moved s p k nm out out' at r (not c.found) (subst (λ (n : ℕ). InterpolationBy (not c.found) s (placed n) nm out out' at r) (sym d) h)
+module _ (s : List ℕ) (from : ℕ) (w : Within s (placed from)) (c : Closing) (x : PastAt s (placed from) c) (nm : Bool) (out : List ℕ) (at : ℕ) where
+  pub interp_open : c.found ≡ false → (out' : List ℕ) (f : Flawed) → InterpolationAt s from nm out out' at (Err f)
+  interp_open h out' f p d k =
+      let y : InterpolationBy s (placed p.offset) nm out out' at (Err f)
+      = subst (λ (n : ℕ). InterpolationBy s (placed n) nm out out' at (Err f)) (sym d) (c.at, x.same ∙ ap not h, x.reach) in
+      let m = reach_again s (placed p.offset) y.0 p (interpolation_at s p).chars y.2 refl k in
+      (advances p (interpolation_at s p).chars, y.1, m.0)
+
+  pub interp_at : c.found ≡ true → (b : Bool) (mid out' : List ℕ) (place end : ℕ)
+      → Put out mid at (parting nm) place → Put mid out' place (slice from c.at.offset s) end
+      → b ≡ next (exactly (ch "{")) (chars_at s (from + 1))
+      → InterpolationAt s from nm out out' at (Ok (record { at = c.at.offset; out = end; named = not b }))
+  interp_at h b mid out' place end u v e p d k =
+      let r : Row = record { at = c.at.offset; out = end; named = not b } in
+      let y = interp_by s (placed from) w c x h nm b out mid out' at place end u v e in
+      interp_moved s p k nm out out' at r (subst (λ (n : ℕ). InterpolationBy s (placed n) nm out out' at (Ok r)) (sym d) y)

@@ -1,4 +1,5 @@
 -- The loop over the pieces of a string: what is written so far, and what is still to be written. Assumes nothing.
+use Rattle.std.specs.Prelude.{Ok, Err}
 use mathlib.Core.Path.{◌≡◌, refl, sym, ap, ◌∙◌, subst}
 use mathlib.Core.Bool.{Bool, true, false, ◌&&◌, true≢false}
 use mathlib.Core.List.{List, [], ◌∷◌, ◌++◌, append_assoc}
@@ -30,11 +31,12 @@ use Rattle.interpolations.specs.Interpolations.{interpolation_at}
 use Rattle.prints.specs.Print.{literal, parting, is_name}
 use Rattle.prints.specs.Records.{quote_at}
 use Rattle.prints.specs.Writing.{outside, in_string, due_space}
-use Rattle.print_places.specs.Places.{still, still_of, no_errors, right_from, Emits, EmittedBy, EmittedAt}
+use Rattle.print_places.specs.Places.{still, still_of, no_errors, right_from, Emits}
+use Rattle.text_parts.specs.declared.Flawed.{Flawed}
 use Rattle.print_places.specs.declared.Written.{Written}
 use Rattle.print_places.proofs.Tokens.{open_still}
 use Rattle.print_places.proofs.Elements.{within_placed}
-use Rattle.print_strings.specs.Strings.{Spot, spot_of, RowWritten, RowBy, RowAt, InterpolationWritten, InterpolationBy, InterpolationAt}
+use Rattle.print_strings.specs.Strings.{Spot, spot_of, RowWritten, RowAt, InterpolationWritten, InterpolationAt}
 use Rattle.print_strings.specs.declared.Row.{Row}
 use Rattle.print_strings.proofs.Interps.{interp_long}
 use Rattle.print_strings.proofs.Turns.{quote_still, quote_right, dollar_still, dollar_right, dollar_wrong, end_wrong, feed_wrong, units_wrong}
@@ -99,21 +101,17 @@ module _ (s : List ℕ) (from : ℕ) (w : Within s (placed from)) (q : next (exa
     },
   )
 
--- A string that has an error.
-pub emitted_wrong : (s : List ℕ) (from : ℕ) (out out' : List ℕ) (at : ℕ) (w : Written) → w.bad ≡ true → right_from s from ≡ false
-    → EmittedAt true s from out out' at w
-emitted_wrong s from out out' at w e h = subst (λ (b : Bool). EmittedBy b true s from out out' at w) (sym e) h
-
 -- ── A turn ──
+
+-- An error of the units.
+pub row_wrong : (s : List ℕ) (from : ℕ) (out₀ out : List ℕ) (at : ℕ) (c : Position) (place : ℕ) (named : Bool)
+    → Stringing s from out₀ out at c place named → no_errors (run_errors s c) ≡ false → right_from s from ≡ false
+row_wrong s from out₀ out at c place named y h = y.right ∙ units_wrong s (placed from) c y.later h
 
 module _ (s : List ℕ) (from : ℕ) (out₀ out : List ℕ) (at : ℕ) (c : Position) (place : ℕ) (named : Bool)
     (y : Stringing s from out₀ out at c place named) (out' : List ℕ) (r : Spot) where
   late : from ≤ c.offset
   late = omega (arith, y.forth)
-
-  -- An error of the units.
-  pub row_wrong : no_errors (run_errors s c) ≡ false → right_from s from ≡ false
-  row_wrong h = y.right ∙ units_wrong s (placed from) c y.later h
 
   module _ (z : RowWritten s c named out out' place r) where
     abbrev m : Text
@@ -149,10 +147,10 @@ module _ (s : List ℕ) (from : ℕ) (out₀ out : List ℕ) (at : ℕ) (c : Pos
         reach_one k = unfold advances advance width in (ap (λ (p : Position). p.offset) k.moved)
 
     pub string_closed : next (exactly (ch "\"")) (chars_at s r.at.offset) ≡ true → (out'' : List ℕ) (end : ℕ) → Put out' out'' r.out (ch "\"" ∷ []) end
-        → Emits true s from out₀ out'' at (record { at = r.at.offset + 1; out = end; bad = false })
+        → Emits true s from out₀ out'' at (record { at = r.at.offset + 1; out = end })
     string_closed d out'' end p =
         string_end (onward r.at 1) (one_on s r.at (ch "\"") (omega arith) (omega arith) z.reach.within d) out'' end p
-        (record { at = r.at.offset + 1; out = end; bad = false }) refl refl
+        (record { at = r.at.offset + 1; out = end }) refl refl
 
     -- ── Behind the units stands neither a quote nor a dollar sign ──
 
@@ -226,62 +224,55 @@ module _ (s : List ℕ) (from : ℕ) (out₀ out : List ℕ) (at c place : ℕ) 
   pub at_length : length out ≡ length out₀
   at_length = put_length _ _ _ _ _ y.2.put
 
-  module _ (out' : List ℕ) (r : Row) (h : RowAt s c named out out' place r) where
-    row_of : (b : Bool) → r.bad ≡ b → RowBy b s y.0 named out out' place r
-    row_of b e = subst (λ (b : Bool). RowBy b s y.0 named out out' place r) e (h y.0 y.1 y.2.within)
+  pub at_bad : (out' : List ℕ) (e : Flawed) → RowAt s c named out out' place (Err e) → right_from s from ≡ false
+  at_bad out' e h = row_wrong s from out₀ out at y.0 place named y.2 (h y.0 y.1 y.2.within)
 
-    pub at_bad : r.bad ≡ true → right_from s from ≡ false
-    at_bad e = row_wrong s from out₀ out at y.0 place named y.2 out' (spot_of y.0 r) (row_of true e)
+  module _ (out' : List ℕ) (r : Row) (h : RowAt s c named out out' place (Ok r)) where
+    abbrev stop : Position
+    stop = (h y.0 y.1 y.2.within).0
 
-    module _ (e : r.bad ≡ false) where
-      abbrev stop : Position
-      stop = (row_of false e).0
+    stops_at : stop.offset ≡ r.at
+    stops_at = (h y.0 y.1 y.2.within).1
 
-      stops_at : stop.offset ≡ r.at
-      stops_at = (row_of false e).1
+    row : RowWritten s y.0 named out out' place (spot_of stop r)
+    row = (h y.0 y.1 y.2.within).2
 
-      row : RowWritten s y.0 named out out' place (spot_of stop r)
-      row = (row_of false e).2
+    pub at_room : r.out ≤ at + 8 * length s
+    at_room = row_room s from out₀ out at y.0 place named y.2 out' (spot_of stop r) row
 
-      pub at_room : r.out ≤ at + 8 * length s
-      at_room = row_room s from out₀ out at y.0 place named y.2 out' (spot_of stop r) row
+    pub row_within : Within s (placed r.at)
+    row_within = subst (λ (n : ℕ). Within s (placed n)) stops_at (within_placed s stop row.reach.within)
 
-      pub row_within : Within s (placed r.at)
-      row_within = subst (λ (n : ℕ). Within s (placed n)) stops_at (within_placed s stop row.reach.within)
+    -- What stands behind the row, said of its position.
+    there : (x : ℕ) (b : Bool) → next (exactly x) (chars_at s r.at) ≡ b → next (exactly x) (chars_at s stop.offset) ≡ b
+    there x b f = subst (λ (n : ℕ). next (exactly x) (chars_at s n) ≡ b) (sym stops_at) f
 
-      -- What stands behind the row, said of its position.
-      there : (x : ℕ) (b : Bool) → next (exactly x) (chars_at s r.at) ≡ b → next (exactly x) (chars_at s stop.offset) ≡ b
-      there x b f = subst (λ (n : ℕ). next (exactly x) (chars_at s n) ≡ b) (sym stops_at) f
+    pub at_closed : next (exactly (ch "\"")) (chars_at s r.at) ≡ true → (out'' : List ℕ) (end : ℕ) → Put out' out'' r.out (ch "\"" ∷ []) end
+        → Emits true s from out₀ out'' at (record { at = r.at + 1; out = end })
+    at_closed f out'' end p =
+        subst (λ (n : ℕ). Emits true s from out₀ out'' at (record { at = n + 1; out = end })) stops_at
+        (string_closed s from out₀ out at y.0 place named y.2 out' (spot_of stop r) row (there (ch "\"") true f) out'' end p)
 
-      pub at_closed : next (exactly (ch "\"")) (chars_at s r.at) ≡ true → (out'' : List ℕ) (end : ℕ) → Put out' out'' r.out (ch "\"" ∷ []) end
-          → Emits true s from out₀ out'' at (record { at = r.at + 1; out = end; bad = false })
-      at_closed f out'' end p =
-          subst (λ (n : ℕ). Emits true s from out₀ out'' at (record { at = n + 1; out = end; bad = false })) stops_at
-          (string_closed s from out₀ out at y.0 place named y.2 out' (spot_of stop r) row (there (ch "\"") true f) out'' end p)
+    pub at_stuck : next (exactly (ch "\"")) (chars_at s r.at) ≡ false → next (exactly (ch "$")) (chars_at s r.at) ≡ false → right_from s from ≡ false
+    at_stuck f g =
+        string_wrong s from out₀ out at y.0 place named y.2 out' (spot_of stop r) row (there (ch "\"") false f) (there (ch "$") false g)
 
-      pub at_stuck : next (exactly (ch "\"")) (chars_at s r.at) ≡ false → next (exactly (ch "$")) (chars_at s r.at) ≡ false → right_from s from ≡ false
-      at_stuck f g =
-          string_wrong s from out₀ out at y.0 place named y.2 out' (spot_of stop r) row (there (ch "\"") false f) (there (ch "$") false g)
+    module _ (f : next (exactly (ch "$")) (chars_at s r.at) ≡ true) (out'' : List ℕ) where
+      pub at_open : (e : Flawed) → InterpolationAt s r.at r.named out' out'' r.out (Err e) → right_from s from ≡ false
+      at_open e g =
+          let x = g stop stops_at row.reach.within in
+          interp_wrong s from out₀ out at y.0 place named y.2 out' (spot_of stop r) row (there (ch "$") true f) x.0 (x.1, x.2)
 
-      module _ (f : next (exactly (ch "$")) (chars_at s r.at) ≡ true) (out'' : List ℕ) (i : Row)
-          (g : InterpolationAt s r.at r.named out' out'' r.out i) where
-        interp_of : (b : Bool) → i.bad ≡ b → InterpolationBy b s stop r.named out' out'' r.out i
-        interp_of b k = subst (λ (b : Bool). InterpolationBy b s stop r.named out' out'' r.out i) k (g stop stops_at row.reach.within)
-
-        pub at_open : i.bad ≡ true → right_from s from ≡ false
-        at_open k =
-            let x = interp_of true k in
-            interp_wrong s from out₀ out at y.0 place named y.2 out' (spot_of stop r) row (there (ch "$") true f) x.0 (x.1, x.2)
-
-        pub at_more : i.bad ≡ false → StringingAt s from out₀ out'' at i.at i.out i.named
-        at_more k =
-            let x = interp_of false k in
+      module _ (i : Row) (g : InterpolationAt s r.at r.named out' out'' r.out (Ok i)) where
+        pub at_more : StringingAt s from out₀ out'' at i.at i.out i.named
+        at_more =
+            let x = g stop stops_at row.reach.within in
             (x.0, x.1, string_more s from out₀ out at y.0 place named y.2 out' (spot_of stop r) row (there (ch "$") true f) out'' (spot_of x.0 i) x.2)
 
         -- Less is left behind it.
-        pub at_less : i.bad ≡ false → (c < i.at) × (i.at ≤ length s)
-        at_less k =
-            let x = interp_of false k in (
+        pub at_less : (c < i.at) × (i.at ≤ length s)
+        at_less =
+            let x = g stop stops_at row.reach.within in (
               omega (arith, y.1, row.forth, interp_long s stop x.0 x.2.reach, x.1),
               omega (arith, x.1, x.2.reach.within.inside),
             )

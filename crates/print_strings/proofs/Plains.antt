@@ -19,7 +19,6 @@ use Rattle.prints.proofs.Bytewise.{escapes_encode}
 use Rattle.print_escapes.proofs.Sizes.{literal_false}
 use Rattle.text_parts.specs.Parts.{part_bytes}
 use Rattle.text_parts.specs.Units.{GoesOn}
-use Rattle.text_parts.specs.declared.Part.TheVariants as part
 use Rattle.text_parts.specs.declared.units.Step.{Step}
 use Rattle.print_strings.specs.Strings.{emitted_part}
 

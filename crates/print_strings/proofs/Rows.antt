@@ -1,6 +1,7 @@
 -- The units of a string written one part after another. Assumes nothing.
+use Rattle.std.specs.Prelude.{Some, None, Ok, Err}
 use mathlib.Core.Path.{◌≡◌, refl, sym, ap, ◌∙◌, subst}
-use mathlib.Core.Bool.{Bool, true, false, ◌&&◌, not, true≢false, and-true, and-false}
+use mathlib.Core.Bool.{Bool, true, false, ◌&&◌, true≢false, and-true, and-false}
 use mathlib.Core.List.{List, [], ◌∷◌, ◌++◌, append-nil}
 use Prim.Native.Nat.{ℕ, ◌+◌, ◌*◌, ◌-◌, ◌≤◌}
 use native.Mathlib.Omega.{arith}
@@ -13,7 +14,6 @@ use Rattle.spans.specs.declared.Position.{Position}
 use Rattle.rules.specs.Text.{Text, is_empty}
 use Rattle.rules.specs.Tokens.{TokenizeError}
 use Rattle.cursor.specs.Strings.{stands}
-use Rattle.cursor.proofs.Pieces.{empty_nil}
 use Rattle.bridge.specs.Bridge.{Within, Reach}
 use Rattle.output.specs.Writing.{Put}
 use Rattle.output.proofs.Buffers.{put_none, put_then}
@@ -27,12 +27,13 @@ use Rattle.prints.proofs.Bytewise.{empty_encode}
 use Rattle.print_escapes.proofs.Sizes.{literal_length, literal_part}
 use Rattle.print_places.specs.Places.{no_errors}
 use Rattle.text_parts.specs.Parts.{part_bytes, PartWithin}
-use Rattle.text_parts.specs.Units.{GoesOn, NextBy, NextAt}
+use Rattle.text_parts.specs.Units.{GoesOn, Flaws, NextAt}
+use Rattle.text_parts.specs.declared.Flawed.{Flawed}
 use Rattle.text_parts.specs.declared.Part.{Part}
 use Rattle.text_parts.specs.declared.Part.TheVariants as part
 use Rattle.text_parts.specs.declared.units.Step.{Step}
 use Rattle.text_parts.proofs.Strings.{units_over, errors_over, chars_over}
-use Rattle.print_strings.specs.Strings.{named_behind, emitted_part, RowWritten, RowBy}
+use Rattle.print_strings.specs.Strings.{named_behind, emitted_part, RowWritten, RowAt}
 
 -- ── One part ──
 
@@ -99,16 +100,14 @@ module _ (s : List ℕ) (p : Position) (named : Bool) (out₀ out : List ℕ) (a
   and_assoc false b c = refl
 
   -- A part more.
-  pub row_more : (r : Step) (g : GoesOn s c r) → r.bad ≡ false → (out' : List ℕ) (place' : ℕ) (name' : Bool)
+  pub row_more : (r : Step) (g : GoesOn s c r) (out' : List ℕ) (place' : ℕ) (name' : Bool)
       → Put out out' place (emitted_part name s r.part) place' → name' ≡ named_behind name r.part
       → Rowing s p named out₀ out' at g.end place' name'
-  row_more r g b out' place' name' w n =
+  row_more r g out' place' name' w n =
       let l = part_bytes s r.part in
-      let none : g.notes ≡ [] = empty_nil g.notes (not_not (is_empty g.notes) (sym g.bad ∙ b)) in
-      let u : Units s c g.end l [] = subst (λ (es : List ℕ). Units s c g.end l es) none g.units in
       record {
         bytes = y.bytes ++ l;
-        units = units_join s p c g.end y.bytes l [] [] y.units u;
+        units = units_join s p c g.end y.bytes l [] [] y.units g.units;
         put =
             subst (λ (v : List ℕ). Put out₀ out' at v place') (sym (literal_part named y.bytes l))
             (put_then out₀ out out' at place place' (literal named y.bytes) (literal (named && is_empty y.bytes) l) y.put
@@ -118,10 +117,6 @@ module _ (s : List ℕ) (p : Position) (named : Bool) (out₀ out : List ℕ) (a
             ∙ (named_behind_lem s name r.part g.inside
             ∙ (ap (λ (b : Bool). b && is_empty l) y.name_is ∙ (and_assoc named (is_empty y.bytes) (is_empty l) ∙ ap (λ (b : Bool). named && b) (sym (empty_both y.bytes l)))));
       }
-    where
-      not_not : (b : Bool) → not b ≡ false → b ≡ true
-      not_not true e = refl
-      not_not false e = absurd (true≢false e)
 
   -- ── The end ──
 
@@ -155,15 +150,15 @@ module _ (s : List ℕ) (p : Position) (named : Bool) (out₀ out : List ℕ) (a
       no_error_bytes = unfold error_bytes in refl
 
   -- An error in the next part.
-  pub row_wrong : (r : Step) → GoesOn s c r → r.bad ≡ true → no_errors (run_errors s p) ≡ false
-  row_wrong r g b = some_error (run_errors s p) (y.units.errors ∙ g.units.errors) (sym g.bad ∙ b)
+  pub row_wrong : Flaws s c → no_errors (run_errors s p) ≡ false
+  row_wrong g = some_error (run_errors s p) (y.units.errors ∙ g.units.errors)
     where
-      some_error : (es : List TokenizeError) → error_bytes es ≡ g.notes ++ error_bytes (run_errors s g.end) → not (is_empty g.notes) ≡ true → no_errors es ≡ false
-      some_error (x ∷ es) e f = unfold no_errors in refl
-      some_error [] e f = go g.notes (sym (unfold error_bytes in e)) f
+      some_error : (es : List TokenizeError) → error_bytes es ≡ g.notes ++ error_bytes (run_errors s g.end) → no_errors es ≡ false
+      some_error (x ∷ es) e = unfold no_errors in refl
+      some_error [] e = go g.notes (sym (unfold error_bytes in e)) g.bad
         where
-          go : (ns : List ℕ) → ns ++ error_bytes (run_errors s g.end) ≡ [] → not (is_empty ns) ≡ true → no_errors [] ≡ false
-          go [] e f = unfold is_empty in (absurd (true≢false (sym f)))
+          go : (ns : List ℕ) → ns ++ error_bytes (run_errors s g.end) ≡ [] → is_empty ns ≡ false → no_errors [] ≡ false
+          go [] e f = unfold is_empty in (absurd (true≢false f))
           go (n ∷ ns) e f = absurd (omega (arith, ap length e))
 
 -- ── By places ──
@@ -177,26 +172,21 @@ pub row_begin : (s : List ℕ) (from : ℕ) (named : Bool) (out : List ℕ) (at 
 row_begin s from named out at p e w = (p, e, row_start s p named out at w)
 
 module _ (s : List ℕ) (from : ℕ) (named : Bool) (out₀ out : List ℕ) (at c place : ℕ) (name : Bool)
-    (y : RowingAt s from named out₀ out at c place name) (r : Step) (n : NextAt s c r) where
-  goes : r.over ≡ false → (q : Position) → q.offset ≡ c → Within s q → GoesOn s q r
-  goes o q d w = subst (λ (b : Bool). NextBy b s q r) o (n q d w)
-
-  pub row_on : r.over ≡ false → r.bad ≡ false → (out' : List ℕ) (place' : ℕ) (name' : Bool)
+    (y : RowingAt s from named out₀ out at c place name) where
+  pub row_on : (r : Step) → NextAt s c (Ok (Some r)) → (out' : List ℕ) (place' : ℕ) (name' : Bool)
       → Put out out' place (emitted_part name s r.part) place' → name' ≡ named_behind name r.part
       → RowingAt s from named out₀ out' at r.at place' name'
-  row_on o b out' place' name' u v p e w =
+  row_on r n out' place' name' u v p e w =
       let (q, d, z) = y p e w in
-      let g = goes o q d (row_within s p named out₀ out at q place name z) in
-      (g.end, g.ends, row_more s p named out₀ out at q place name z r g b out' place' name' u v)
+      let g = n q d (row_within s p named out₀ out at q place name z) in
+      (g.end, g.ends, row_more s p named out₀ out at q place name z r g out' place' name' u v)
 
-  pub row_bad : r.over ≡ false → r.bad ≡ true → (p : Position) → p.offset ≡ from → Within s p → no_errors (run_errors s p) ≡ false
-  row_bad o b p e w =
+  pub row_bad : (f : Flawed) → NextAt s c (Err f) → RowAt s from named out₀ out at (Err f)
+  row_bad f n p e w =
       let (q, d, z) = y p e w in
-      row_wrong s p named out₀ out at q place name z r (goes o q d (row_within s p named out₀ out at q place name z)) b
+      row_wrong s p named out₀ out at q place name z (n q d (row_within s p named out₀ out at q place name z))
 
-  pub row_over : r.over ≡ true → (p : Position) → p.offset ≡ from → Within s p
-      → RowBy false s p named out₀ out at (record { at = c; out = place; named = name; bad = false })
-  row_over o p e w =
+  pub row_over : NextAt s c (Ok None) → RowAt s from named out₀ out at (Ok (record { at = c; out = place; named = name }))
+  row_over n p e w =
       let (q, d, z) = y p e w in
-      let h = subst (λ (b : Bool). NextBy b s q r) o (n q d (row_within s p named out₀ out at q place name z)) in
-      (q, d, row_end s p named out₀ out at q place name z h)
+      (q, d, row_end s p named out₀ out at q place name z (n q d (row_within s p named out₀ out at q place name z)))

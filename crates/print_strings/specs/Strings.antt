@@ -1,5 +1,5 @@
 -- What the functions of a string's print promise.
-use Rattle.std.specs.Prelude.{◌≡◌, Bool, true, false, ◌&&◌, List, [], ◌++◌, ℕ, ◌+◌, ◌*◌, ◌-◌, ◌≤◌}
+use Rattle.std.specs.Prelude.{◌≡◌, Bool, true, false, ◌&&◌, List, [], ◌++◌, ℕ, ◌+◌, ◌*◌, ◌-◌, ◌≤◌, Result, Ok, Err}
 use Rattle.characters.specs.Utf8.{chars_at, encode}
 use Rattle.spans.specs.declared.Position.{Position}
 use Rattle.rules.specs.Text.{is_empty}
@@ -10,6 +10,7 @@ use Rattle.string_runs.specs.Runs.{run_chars, run_made, run_errors}
 use Rattle.interpolations.specs.Interpolations.{interpolation_at}
 use Rattle.prints.specs.Print.{literal, parting, is_name}
 use Rattle.text_parts.specs.Parts.{part_bytes}
+use Rattle.text_parts.specs.declared.Flawed.{Flawed}
 use Rattle.text_parts.specs.declared.Part.{Part}
 use Rattle.text_parts.specs.declared.Part.TheVariants as part
 use Rattle.print_places.specs.Places.{no_errors}
@@ -44,13 +45,13 @@ pub record RowWritten (s : List ℕ) (p : Position) (named : Bool) (out out' : L
   pub forth : p.offset ≤ r.at.offset
   pub small : r.out ≤ at + 6 * (r.at.offset - p.offset)
 
-abbrev pub RowBy : Bool → List ℕ → Position → Bool → List ℕ → List ℕ → ℕ → Row → Type 0
-RowBy true s p named out out' at r = no_errors (run_errors s p) ≡ false
-RowBy false s p named out out' at r = (e : Position) × (e.offset ≡ r.at) × RowWritten s p named out out' at (spot_of e r)
+abbrev pub RowBy : List ℕ → Position → Bool → List ℕ → List ℕ → ℕ → Result Row Flawed → Type 0
+RowBy s p named out out' at (Ok r) = (e : Position) × (e.offset ≡ r.at) × RowWritten s p named out out' at (spot_of e r)
+RowBy s p named out out' at (Err e) = no_errors (run_errors s p) ≡ false
 
 -- The units from a place on, whatever line and column it has.
-abbrev pub RowAt : List ℕ → ℕ → Bool → List ℕ → List ℕ → ℕ → Row → Type 0
-RowAt s from named out out' at r = (p : Position) → p.offset ≡ from → Within s p → RowBy r.bad s p named out out' at r
+abbrev pub RowAt : List ℕ → ℕ → Bool → List ℕ → List ℕ → ℕ → Result Row Flawed → Type 0
+RowAt s from named out out' at r = (p : Position) → p.offset ≡ from → Within s p → RowBy s p named out out' at r
 
 -- The interpolation at `p`, closed, was written; or it is not closed.
 pub record InterpolationWritten (s : List ℕ) (p : Position) (named : Bool) (out out' : List ℕ) (at : ℕ) (r : Spot) : Type 0 where
@@ -61,10 +62,11 @@ pub record InterpolationWritten (s : List ℕ) (p : Position) (named : Bool) (ou
   pub forth : p.offset ≤ r.at.offset
   pub small : r.out ≤ at + 7 * (r.at.offset - p.offset)
 
-abbrev pub InterpolationBy : Bool → List ℕ → Position → Bool → List ℕ → List ℕ → ℕ → Row → Type 0
-InterpolationBy true s p named out out' at r = (e : Position) × ((interpolation_at s p).open_end ≡ true) × Reach s p (interpolation_at s p).chars e
-InterpolationBy false s p named out out' at r = (e : Position) × (e.offset ≡ r.at) × InterpolationWritten s p named out out' at (spot_of e r)
+abbrev pub InterpolationBy : List ℕ → Position → Bool → List ℕ → List ℕ → ℕ → Result Row Flawed → Type 0
+InterpolationBy s p named out out' at (Ok r) = (e : Position) × (e.offset ≡ r.at) × InterpolationWritten s p named out out' at (spot_of e r)
+InterpolationBy s p named out out' at (Err _) =
+    (e : Position) × ((interpolation_at s p).open_end ≡ true) × Reach s p (interpolation_at s p).chars e
 
 -- The interpolation at a place, whatever line and column it has.
-abbrev pub InterpolationAt : List ℕ → ℕ → Bool → List ℕ → List ℕ → ℕ → Row → Type 0
-InterpolationAt s from named out out' at r = (p : Position) → p.offset ≡ from → Within s p → InterpolationBy r.bad s p named out out' at r
+abbrev pub InterpolationAt : List ℕ → ℕ → Bool → List ℕ → List ℕ → ℕ → Result Row Flawed → Type 0
+InterpolationAt s from named out out' at r = (p : Position) → p.offset ≡ from → Within s p → InterpolationBy s p named out out' at r

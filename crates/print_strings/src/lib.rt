@@ -17,19 +17,18 @@ ghost use Rattle.text_parts.specs.Parts.{part_bytes, PartWithin};
 ghost use Rattle.print_strings.specs.Strings.{emitted_part, named_behind, RowAt, InterpolationAt};
 
 use print_places::Written;
-use text_parts::{Part, units};
+use text_parts::{Flawed, Part, units};
 
 // The bytes of `\uD800`.
 const PARTING_BYTES: usize = 6;
 
-// What was written inside a string: the place behind it, the place behind its bytes, whether a `$name` stands right before what follows,
-// and whether it has an error.
+// What was written inside a string: the place behind it, the place behind its bytes, and whether a `$name` stands right before what
+// follows.
 #[derive(Clone, Copy)]
 pub struct Row {
     pub at: usize,
     pub out: usize,
     pub named: bool,
-    pub bad: bool,
 }
 
 // The bytes s[from..to] of a literal: as they stand where `plain` says so, which spares a second look at each.
@@ -82,7 +81,7 @@ fn is_named(named: bool, part: Part) -> bool
 }
 
 // The units from a place to where none stands.
-fn put_units(s: &[u8], from: usize, named: bool, out: &mut [u8], at: usize) -> Row
+fn put_units(s: &[u8], from: usize, named: bool, out: &mut [u8], at: usize) -> Result<Row, Flawed>
     requires within { Within s.now (placed from) }
     requires at_bound { at ≤ MOST / 2 }
     ensures { RowAt s.now from named out.old out.new at result }
@@ -90,30 +89,18 @@ fn put_units(s: &[u8], from: usize, named: bool, out: &mut [u8], at: usize) -> R
     let mut c = from;
     let mut place = at;
     let mut name = named;
-    loop {
-        let n = units::next(s, c);
-        if n.over {
-            return Row {
-                at: c,
-                out: place,
-                named: name,
-                bad: false,
-            };
-        }
-        if n.bad {
-            return Row {
-                at: c,
-                out: place,
-                named: name,
-                bad: true,
-            };
-        }
+    while let Some(n) = units::next(s, c)? {
         let part = n.part;
         let plain = n.plain & !name;
         place = put_part(s, part, plain, name, out, place);
         name = is_named(name, part);
         c = n.at;
     }
+    Ok(Row {
+        at: c,
+        out: place,
+        named: name,
+    })
 }
 
 // What parts a `$name` from an interpolation right behind it.
@@ -128,36 +115,36 @@ fn put_parting(named: bool, out: &mut [u8], at: usize) -> usize
 }
 
 // The interpolation whose dollar sign stands at a place.
-fn put_interpolation(s: &[u8], from: usize, named: bool, out: &mut [u8], at: usize) -> Row
+fn put_interpolation(
+    s: &[u8],
+    from: usize,
+    named: bool,
+    out: &mut [u8],
+    at: usize,
+) -> Result<Row, Flawed>
     requires within { Within s.now (placed from) }
     requires from_value { next (exactly (ch "$")) (chars_at s.now from) ≡ true }
     requires at_bound { at ≤ MOST }
     ensures { InterpolationAt s.now from named out.old out.new at result }
 {
     let c = interpolations::past_interpolation(s, bridge::at_place(from));
+    if !c.found {
+        return Err(Flawed);
+    }
     let q = c.at;
     let to = q.offset;
-    let found = c.found;
     let place = put_parting(named, out, at);
     let end = output::put_part(s, from, to, out, place);
     let braces = bridge::is_at(s, from + 1, b'{');
-    Row {
+    Ok(Row {
         at: to,
         out: end,
         named: !braces,
-        bad: !found,
-    }
-}
-
-// A string that has an error.
-fn wrong(at: usize, out: usize) -> Written
-    ensures { result.bad ≡ true }
-{
-    Written { at, out, bad: true }
+    })
 }
 
 // The string whose opening quote stands at a place.
-pub fn put_string(s: &[u8], from: usize, out: &mut [u8], at: usize) -> Written
+pub fn put_string(s: &[u8], from: usize, out: &mut [u8], at: usize) -> Result<Written, Flawed>
     requires within { Within s.now (placed from) }
     requires from_value { next (exactly (ch "\"")) (chars_at s.now from) ≡ true }
     requires from_value_2 { starts_with quotes (chars_at s.now from) ≡ false }
@@ -168,28 +155,21 @@ pub fn put_string(s: &[u8], from: usize, out: &mut [u8], at: usize) -> Written
     let mut place = output::put_byte(out, at, b'"');
     let mut named = false;
     loop {
-        let r = put_units(s, c, named, out, place);
+        let r = put_units(s, c, named, out, place)?;
         let stop = r.at;
-        if r.bad {
-            return wrong(stop, r.out);
-        }
         if bridge::is_at(s, stop, b'"') {
             let behind = stop + 1;
-            return Written {
+            return Ok(Written {
                 at: behind,
                 out: output::put_byte(out, r.out, b'"'),
-                bad: false,
-            };
+            });
         }
         if !bridge::is_at(s, stop, b'$') {
-            return wrong(stop, r.out);
+            return Err(Flawed);
         }
-        let i = put_interpolation(s, stop, r.named, out, r.out);
+        let i = put_interpolation(s, stop, r.named, out, r.out)?;
         c = i.at;
         place = i.out;
         named = i.named;
-        if i.bad {
-            return wrong(c, place);
-        }
     }
 }

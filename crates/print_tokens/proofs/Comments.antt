@@ -48,12 +48,12 @@ braces_placed s from p texts texts' m e i = subst (λ (x : Position). BracesAt s
 
 pub braces_emits : (s : List ℕ) (from : ℕ) (texts texts' : List ℕ) (m : Filled) → starts_with dollar_brace (chars_at s from) ≡ true
     → BracesAt s (placed from) texts texts' 0 m → (a b : List ℕ) (at r : ℕ) → Put a b at (text "${}") r
-    → Emits true s from a b at (record { at = m.at.offset; out = r; bad = false })
+    → Emits true s from a b at (record { at = m.at.offset; out = r })
 unfolding is_doc
 braces_emits s from texts texts' m e i a b at r p =
     let w = word_of StringInterpStart (text "${...}") in
     alone_emits s from StringInterpStart (text "${...}") m.at i.one i.errors refl
-    a b at (record { at = m.at.offset; out = r; bad = false }) refl (omega (arith, p.place, i.one.forth))
+    a b at (record { at = m.at.offset; out = r }) refl (omega (arith, p.place, i.one.forth))
     (quote_is s from (ch "$") (omega arith) (omega arith) (starts_first (ch "$") (text "{") (chars_at s from) e))
     (put_same a b at r (begun false w) (text "${}") (begun_braces w refl) p)
 
@@ -62,11 +62,11 @@ braces_emits s from texts texts' m e i a b at r p =
 module _ (s : List ℕ) (from : ℕ) (t : Text) (q : Position) (one : OneToken s (placed from) DocComment t q q)
     (e : next (exactly (ch "/")) (chars_at s from) ≡ true) where
   doc_emits : errors_at s (placed from) ≡ [] → (a b : List ℕ) (at r : ℕ) → Put a b at (doc (encode t) ++ (LF ∷ [])) r
-      → Emits false s from a b at (record { at = q.offset; out = r; bad = false })
+      → Emits false s from a b at (record { at = q.offset; out = r })
   unfolding is_doc
   doc_emits n a b at r p =
       let w = word_of DocComment t in
-      alone_emits s from DocComment t q one n refl a b at (record { at = q.offset; out = r; bad = false }) refl
+      alone_emits s from DocComment t q one n refl a b at (record { at = q.offset; out = r }) refl
       (omega (arith, p.place, doc_small (encode t), token_small s (placed from) DocComment t q q one, one.forth))
       (quote_is s from (ch "/") (omega arith) (omega arith) e)
       (put_same a b at r (begun false w) (doc (encode t) ++ (LF ∷ [])) (begun_doc w refl) p)
@@ -116,7 +116,7 @@ module _ (s : List ℕ) (from : ℕ) (e : starts_with slashes (chars_at s from) 
       ∙ line_feedless (drop 3 (chars_at s from))
 
   pub line_emits : (a b : List ℕ) (at r : ℕ) → Put a b at (doc (encode (trim (chars_of (take (d.to - d.from) (drop d.from s))))) ++ (LF ∷ [])) r
-      → Emits false s from a b at (record { at = d.at.offset; out = r; bad = false })
+      → Emits false s from a b at (record { at = d.at.offset; out = r })
   line_emits a b at r p =
       doc_emits s from (trim (chars_of (slice d.from d.to s))) d.at i.one (starts_first (ch "/") (text "//") (chars_at s from) e) i.errors a b at r
       (subst (λ (l : List ℕ). Put a b at (doc (encode (trim (chars_of l))) ++ (LF ∷ [])) r) (part_slice s d.from d.to i.forth i.inside) p)
@@ -135,7 +135,7 @@ module _ (s : List ℕ) (from : ℕ) (e : opens_doc (chars_at s from) ≡ true) 
 
   pub block_emits : d.errors ≤ 0 → (a b : List ℕ) (at r : ℕ)
       → Put a b at (doc (encode (clean_doc (chars_of (take (d.to - d.from) (drop d.from s))))) ++ (LF ∷ [])) r
-      → Emits false s from a b at (record { at = d.at.offset; out = r; bad = false })
+      → Emits false s from a b at (record { at = d.at.offset; out = r })
   block_emits h a b at r p =
       let t = clean_doc (chars_of (slice d.from d.to s)) in
       doc_emits s from t d.at i.one opening (token_right s from DocComment t d.at i.one errors errors' d.errors i.written h) a b at r

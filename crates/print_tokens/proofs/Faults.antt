@@ -1,6 +1,6 @@
 -- Errors of a token, told by how many bytes were recorded for them; and the first byte of a token. Assumes nothing.
-use mathlib.Core.Path.{◌≡◌, refl, sym, ap, subst}
-use mathlib.Core.Bool.{Bool, true, false}
+use mathlib.Core.Path.{◌≡◌, refl, ap}
+use mathlib.Core.Bool.{true, false}
 use mathlib.Core.List.{List, [], ◌∷◌}
 use Prim.Native.Nat.{ℕ, ◌≤◌, ◌<◌}
 use native.Mathlib.Omega.{arith}
@@ -24,8 +24,7 @@ use Rattle.records.specs.Layout.{error_record_of, error_bytes}
 use Rattle.walks.specs.Segments.{segment_at, errors_at, OneToken}
 use Rattle.walks.proofs.Segments.{one_token_yields}
 use Rattle.prints.specs.Records.{quote_at}
-use Rattle.print_places.specs.declared.Written.{Written}
-use Rattle.print_places.specs.Places.{lexed_from, no_errors, right_from, EmittedBy, EmittedAt}
+use Rattle.print_places.specs.Places.{lexed_from, no_errors, right_from}
 use Rattle.print_places.proofs.Tokens.{wrong_some}
 
 -- ── Errors ──
@@ -54,10 +53,6 @@ module _ (s : List ℕ) (from kind : ℕ) (t : Text) (q : Position) (one : OneTo
   token_wrong h =
       wrong_some (record { kind = kind; text = t; span = span (placed from) q } ∷ []) (errors_at s (placed from)) (segment_at s (placed from)).open_end (lexed_from s from) (left (Outside q) (chars_at s q.offset))
       (one_token_yields s (placed from) q kind t q one) (errors_some (errors_at s (placed from)) (omega (arith, p.place)))
-
-pub wrong_emitted : (due : Bool) (s : List ℕ) (from : ℕ) (out out' : List ℕ) (at : ℕ) (w : Written) → w.bad ≡ true → right_from s from ≡ false
-    → EmittedAt due s from out out' at w
-wrong_emitted due s from out out' at w e h = subst (λ (b : Bool). EmittedBy b due s from out out' at w) (sym e) h
 
 -- ── The first byte ──
 

@@ -127,14 +127,14 @@ module _ (s : List ℕ) (from : ℕ) (e : next (exactly (ch "'")) (chars_at s fr
         ∙ front_part zeros (encode i.text) m.texts (omega (arith, i.made.place)) (omega (arith, letter_few))
 
     pub letter_emits : m.errors ≤ 0 → (a b : List ℕ) (at r : ℕ) → Put a b at (character (slice 0 m.texts made)) r
-        → Emits true s from a b at (record { at = m.at.offset; out = r; bad = false })
+        → Emits true s from a b at (record { at = m.at.offset; out = r })
     unfolding is_doc
     letter_emits h a b at r p =
         let w = word_of CharLiteral i.text in
         let f : begun false w ≡ character (slice 0 m.texts made) = begun_char w refl ∙ ap character (sym letter_made) in
         alone_emits s from CharLiteral i.text m.at i.one
         (token_right s from CharLiteral i.text m.at i.one errors errors' m.errors i.written h) refl
-        a b at (record { at = m.at.offset; out = r; bad = false }) refl
+        a b at (record { at = m.at.offset; out = r }) refl
         (omega (arith, p.place, character_small (slice 0 m.texts made), ap length letter_made, encode_length i.text, short, i.one.forth))
         (quote_is s from (ch "'") (omega arith) (omega arith) e)
         (put_same a b at r (begun false w) (character (slice 0 m.texts made)) f p)

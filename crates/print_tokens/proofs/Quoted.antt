@@ -79,12 +79,12 @@ module _ (s : List ℕ) (from : ℕ) (w : Within s (placed from)) (e : starts_wi
           piece_literal false (word_of StringLiteral inner) refl ∙ (literal_false (encode inner) ∙ ap (escapes (ch "\"")) (sym raw_bytes))
 
       pub raw_emits : (d : List ℕ) (r : ℕ) → m.errors ≤ 0 → Put c d y (ch "\"" ∷ []) r
-          → Emits true s from a d at (record { at = m.at.offset; out = r; bad = false })
+          → Emits true s from a d at (record { at = m.at.offset; out = r })
       raw_emits d r h z =
           let E = escapes (ch "\"") (slice begin (begin + m.texts) s) in
           let P = one_piece false (word_of StringLiteral inner) in
           quoted_emits s from StringLiteral inner m.at i.one (token_right s from StringLiteral inner m.at i.one errors errors' m.errors i.written h)
-          refl a d at (record { at = m.at.offset; out = r; bad = false }) refl (omega (arith, raw_small, z.place, i.small, i.one.forth))
+          refl a d at (record { at = m.at.offset; out = r }) refl (omega (arith, raw_small, z.place, i.small, i.one.forth))
           (quote_is s from (ch "\"") (omega arith) (omega arith) (starts_first (ch "\"") (text "\"\"") (chars_at s from) e))
           (put_same a d at r (text "\"" ++ (P ++ text "\"")) (text "\"" ++ (E ++ text "\""))
           (ap (λ (l : Text). text "\"" ++ (l ++ text "\"")) raw_piece)

@@ -17,6 +17,7 @@ ghost use Rattle.print_escapes.specs.Escapes.{MOST};
 ghost use Rattle.print_places.specs.Places as places;
 
 use print_places::Written;
+use text_parts::Flawed;
 
 // The bytes of the longest character, of `'\uD800'` and of `${}`.
 const CHARACTER_BYTES: usize = 4;
@@ -28,19 +29,8 @@ const BRACES_BYTES: usize = 3;
 // The quotes in front of a raw string's text.
 const QUOTES: usize = 3;
 
-// A token that has an error.
-fn wrong(from: usize, at: usize) -> Written
-    ensures { result.bad ≡ true }
-{
-    Written {
-        at: from,
-        out: at,
-        bad: true,
-    }
-}
-
 // The raw string at a place, as an ordinary one.
-pub fn put_raw(text: &[u8], from: usize, out: &mut [u8], at: usize) -> Written
+pub fn put_raw(text: &[u8], from: usize, out: &mut [u8], at: usize) -> Result<Written, Flawed>
     requires within { Within text.now (placed from) }
     requires from_value { starts_with quotes (chars_at text.now from) ≡ true }
     requires at_bound { at ≤ MOST / 4 }
@@ -50,18 +40,17 @@ pub fn put_raw(text: &[u8], from: usize, out: &mut [u8], at: usize) -> Written
     let mut errors = [0u8; 0];
     let m = multiline::raw(text, bridge::at_place(from), &mut texts, 0, &mut errors, 0);
     if 0 < m.errors {
-        return wrong(from, at);
+        return Err(Flawed);
     }
     let q = m.at;
     let begin = from + QUOTES;
     let end = begin + m.texts;
     let front = output::put_byte(out, at, b'"');
     let place = print_escapes::put_escapes(b'"', text, begin, end, out, front);
-    Written {
+    Ok(Written {
         at: q.offset,
         out: output::put_byte(out, place, b'"'),
-        bad: false,
-    }
+    })
 }
 
 // A character literal whose text is the first n bytes of `made`.
@@ -80,7 +69,7 @@ fn put_made(made: &[u8], n: usize, out: &mut [u8], at: usize) -> usize
 }
 
 // The character literal at a place.
-pub fn put_character(text: &[u8], from: usize, out: &mut [u8], at: usize) -> Written
+pub fn put_character(text: &[u8], from: usize, out: &mut [u8], at: usize) -> Result<Written, Flawed>
     requires within { Within text.now (placed from) }
     requires from_value { next (exactly (ch "'")) (chars_at text.now from) ≡ true }
     requires at_bound { at ≤ MOST / 4 }
@@ -90,14 +79,13 @@ pub fn put_character(text: &[u8], from: usize, out: &mut [u8], at: usize) -> Wri
     let mut errors = [0u8; 0];
     let l = letters::character(text, bridge::at_place(from), &mut made, 0, &mut errors, 0);
     if 0 < l.errors {
-        return wrong(from, at);
+        return Err(Flawed);
     }
     let q = l.at;
-    Written {
+    Ok(Written {
         at: q.offset,
         out: put_made(&made, l.texts, out, at),
-        bad: false,
-    }
+    })
 }
 
 // `${` at a place, up to its closing brace.
@@ -105,7 +93,7 @@ pub fn put_braces(text: &[u8], from: usize, out: &mut [u8], at: usize) -> Writte
     requires within { Within text.now (placed from) }
     requires from_value { starts_with dollar_brace (chars_at text.now from) ≡ true }
     requires at_bound { at ≤ MOST / 4 }
-    ensures { places.EmittedAt true text.now from out.old out.new at result }
+    ensures { places.Emits true text.now from out.old out.new at result }
 {
     let mut texts = [0u8; 0];
     let m = multiline::braces(text, bridge::at_place(from), &mut texts, 0);
@@ -113,7 +101,6 @@ pub fn put_braces(text: &[u8], from: usize, out: &mut [u8], at: usize) -> Writte
     Written {
         at: q.offset,
         out: output::put_part(b"${}", 0, BRACES_BYTES, out, at),
-        bad: false,
     }
 }
 
@@ -122,7 +109,7 @@ pub fn put_line_doc(text: &[u8], from: usize, out: &mut [u8], at: usize) -> Writ
     requires within { Within text.now (placed from) }
     requires from_value { starts_with slashes (chars_at text.now from) ≡ true }
     requires at_bound { at ≤ MOST / 4 }
-    ensures { places.EmittedAt false text.now from out.old out.new at result }
+    ensures { places.Emits false text.now from out.old out.new at result }
 {
     let d = multiline::doc_line(text, bridge::at_place(from));
     let begin = d.from;
@@ -131,12 +118,11 @@ pub fn put_line_doc(text: &[u8], from: usize, out: &mut [u8], at: usize) -> Writ
     Written {
         at: q.offset,
         out: print_docs::put_line_doc(&text[begin..end], out, at),
-        bad: false,
     }
 }
 
 // The block doc comment at a place.
-pub fn put_block_doc(text: &[u8], from: usize, out: &mut [u8], at: usize) -> Written
+pub fn put_block_doc(text: &[u8], from: usize, out: &mut [u8], at: usize) -> Result<Written, Flawed>
     requires within { Within text.now (placed from) }
     requires from_value { opens_doc (chars_at text.now from) ≡ true }
     requires at_bound { at ≤ MOST / 4 }
@@ -145,14 +131,13 @@ pub fn put_block_doc(text: &[u8], from: usize, out: &mut [u8], at: usize) -> Wri
     let mut errors = [0u8; 0];
     let d = multiline::doc_block(text, bridge::at_place(from), &mut errors, 0);
     if 0 < d.errors {
-        return wrong(from, at);
+        return Err(Flawed);
     }
     let begin = d.from;
     let end = d.to;
     let behind = d.at;
-    Written {
+    Ok(Written {
         at: behind.offset,
         out: print_docs::put_block_doc(&text[begin..end], out, at),
-        bad: false,
-    }
+    })
 }

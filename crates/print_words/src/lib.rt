@@ -57,12 +57,11 @@ pub fn put_word(
     requires within { Within text.now (placed from) }
     requires begun { Begun text.now from class }
     requires at_bound { at ≤ PLACES }
-    ensures { places.EmittedAt true text.now from out.old out.new at result }
+    ensures { places.Emits true text.now from out.old out.new at result }
 {
     let end = word_end(marks, text, from, class);
     Written {
         at: end,
         out: put_text(text, from, end, out, at),
-        bad: false,
     }
 }

@@ -1,6 +1,6 @@
 -- Laws of the answer of printing: by the questions one after another. Assumes nothing.
+use Rattle.std.specs.Prelude.{Result, Ok, Err}
 use mathlib.Core.Path.{◌≡◌, refl, sym, ◌∙◌, ap, subst}
-use mathlib.Core.Bool.{Bool, true, false}
 use mathlib.Core.List.{List, [], ◌∷◌, ◌++◌, append-nil}
 use Prim.Native.Nat.{ℕ, ◌≤◌, ◌<◌}
 use native.Mathlib.Nat.{zero-add}
@@ -16,9 +16,9 @@ use Rattle.questions.specs.declared.Asked.TheVariants.{Yes, No}
 use Rattle.questions.specs.Questions.{ask_text}
 use Rattle.prints.specs.Print.{print_bytes}
 use Rattle.first_error.specs.First.{first_start}
-use Rattle.print_loop.specs.declared.Walked.{Walked}
-use Rattle.print_loop.proofs.Outcomes.{walked_bad, walked_right, walked_print}
-use Rattle.printing.specs.Passes.{WalkedFront, refused_by}
+use Rattle.text_parts.specs.declared.Flawed.{Flawed}
+use Rattle.print_loop.proofs.Outcomes.{walked_bad, walked_print}
+use Rattle.printing.specs.Passes.{WalkedFront}
 use Rattle.printing.specs.declared.Answer.TheVariants.{Done, Refused}
 use Rattle.printing.specs.Printing.{RefusedMistake, RefusedPrint, ask_mistake, ask_print, ◌then◌, print_answer, buffer_after, Printed}
 
@@ -46,26 +46,6 @@ print_room needed size h = rw (le-leb needed size h)
 pub put_size : (a b bytes : List ℕ) (n : ℕ) → Put a b 0 bytes n → n ≡ length bytes
 put_size a b bytes n p = p.place ∙ zero-add (length bytes)
 
--- ── Which of them is answered with no ──
-
-pub by_mistake : (bad short : Bool) → refused_by bad short ≡ RefusedMistake → bad ≡ true
-unfolding refused_by
-by_mistake true short e = refl
-by_mistake false true e = absurd (omega (arith, e))
-by_mistake false false e = absurd (omega (arith, e))
-
-pub by_print : (bad short : Bool) → refused_by bad short ≡ RefusedPrint → (bad ≡ false) × (short ≡ true)
-unfolding refused_by
-by_print true short e = absurd (omega (arith, e))
-by_print false true e = (refl, refl)
-by_print false false e = absurd (omega (arith, e))
-
-pub by_none : (bad short : Bool) → (refused_by bad short ≡ RefusedMistake → ⊥) → (refused_by bad short ≡ RefusedPrint → ⊥) → (bad ≡ false) × (short ≡ false)
-unfolding refused_by
-by_none true short m p = absurd (m refl)
-by_none false true m p = absurd (p refl)
-by_none false false m p = (refl, refl)
-
 -- ── The two passes ──
 
 no_bytes : (l : List ℕ) → length l ≡ 0 → l ≡ []
@@ -73,16 +53,16 @@ no_bytes [] e = refl
 no_bytes (x ∷ l) e = absurd (omega arith)
 
 -- A pass over no byte changes none.
-pub front_none : (s out out' : List ℕ) (w : Walked) → WalkedFront s 0 out out' w → out' ≡ out
+pub front_none : (s out out' : List ℕ) (w : Result ℕ Flawed) → WalkedFront s 0 out out' w → out' ≡ out
 front_none s out out' w f = f.after ∙ ap (λ (l : List ℕ). l ++ out) (no_bytes f.front f.size)
 
 -- A pass over as many bytes as the print has writes it.
-pub front_print : (s out out' : List ℕ) (n : ℕ) (w : Walked) → WalkedFront s n out out' w → script_errors s ≡ [] → n ≡ length (print_bytes s)
+pub front_print : (s out out' : List ℕ) (n : ℕ) (w : Result ℕ Flawed) → WalkedFront s n out out' w → script_errors s ≡ [] → n ≡ length (print_bytes s)
     → n ≤ length out → out' ≡ print_bytes s ++ drop n out
 front_print s out out' n w f right e h =
     let a = take n out in
     let k : length a ≡ length (print_bytes s) = length-take-le n out h ∙ e in
-    let p = walked_print s a w.bytes f.front w.bad f.walked right in
+    let p = (walked_print s a f.front w f.walked right).2 in
     let g : f.front ≡ print_bytes s
     = p.written ∙ (sets_front a (print_bytes s) (omega (arith, k)) ∙ (ap (λ (m : ℕ). print_bytes s ++ drop m a) (sym k) ∙ (ap (λ (l : List ℕ). print_bytes s ++ l) (drop-length a) ∙ append-nil (print_bytes s)))) in
     f.after ∙ ap (λ (l : List ℕ). l ++ drop n out) g
@@ -95,36 +75,39 @@ module _ (s out : List ℕ) where
   unfolding print_answer ◌then◌ buffer_after
   print_refused n f e = record { answer = rw e; out_after = refl }
 
-  module _ (out₁ : List ℕ) (w : Walked) (y : ask_text s ≡ Yes) (first : WalkedFront s 0 out out₁ w) where
+  module _ (out₁ : List ℕ) (y : ask_text s ≡ Yes) where
     -- 11.
-    pub print_mistake : (n f : ℕ) → n ≡ RefusedMistake → w.bad ≡ true → f ≡ first_start (script_errors s) → Printed s out (Refused n f) out₁
+    pub print_mistake : (e : Flawed) (f : ℕ) → WalkedFront s 0 out out₁ (Err e) → f ≡ first_start (script_errors s)
+        → Printed s out (Refused RefusedMistake f) out₁
     unfolding print_answer ◌then◌ buffer_after
-    print_mistake n f m b e =
-        let bad = walked_bad s _ w.bytes first.front w.bad first.walked b in
-        record { answer = rw (y, mistake_no (script_errors s) bad, m, e); out_after = front_none s out out₁ w first }
+    print_mistake e f first q =
+        record {
+          answer = rw (y, mistake_no (script_errors s) (walked_bad s (take 0 out) first.front e first.walked), q);
+          out_after = front_none s out out₁ (Err e) first;
+        }
 
-    module _ (b : w.bad ≡ false) where
+    module _ (bytes : ℕ) (first : WalkedFront s 0 out out₁ (Ok bytes)) where
       right : script_errors s ≡ []
-      right = (walked_right s _ w.bytes first.front w.bad first.walked b).0
+      right = first.walked.0
 
-      size : w.bytes ≡ length (print_bytes s)
-      size = put_size _ _ (print_bytes s) w.bytes (walked_right s _ w.bytes first.front w.bad first.walked b).1
+      size : bytes ≡ length (print_bytes s)
+      size = put_size _ _ (print_bytes s) bytes first.walked.1
 
       -- 12.
-      pub print_short : (n : ℕ) → n ≡ RefusedPrint → length out < w.bytes → Printed s out (Refused n w.bytes) out₁
+      pub print_short : length out < bytes → Printed s out (Refused RefusedPrint bytes) out₁
       unfolding print_answer ◌then◌ buffer_after
-      print_short n m h =
+      print_short h =
           record {
-            answer = rw (y, mistake_yes (script_errors s) right, ← size, print_no_room w.bytes (length out) h, m);
-            out_after = front_none s out out₁ w first;
+            answer = rw (y, mistake_yes (script_errors s) right, ← size, print_no_room bytes (length out) h);
+            out_after = front_none s out out₁ (Ok bytes) first;
           }
 
       -- A yes.
-      pub print_done : w.bytes ≤ length out → (out₂ : List ℕ) (v : Walked) → WalkedFront s w.bytes out₁ out₂ v → Printed s out (Done w.bytes) out₂
+      pub print_done : bytes ≤ length out → (out₂ : List ℕ) (v : Result ℕ Flawed) → WalkedFront s bytes out₁ out₂ v → Printed s out (Done bytes) out₂
       unfolding print_answer ◌then◌ buffer_after
       print_done h out₂ v second =
-          let z = subst (λ (l : List ℕ). WalkedFront s w.bytes l out₂ v) (front_none s out out₁ w first) second in
+          let z = subst (λ (l : List ℕ). WalkedFront s bytes l out₂ v) (front_none s out out₁ (Ok bytes) first) second in
           record {
-            answer = rw (y, mistake_yes (script_errors s) right, ← size, print_room w.bytes (length out) h);
-            out_after = front_print s out out₂ w.bytes v z right size h ∙ ap (λ (n : ℕ). print_bytes s ++ drop n out) size;
+            answer = rw (y, mistake_yes (script_errors s) right, ← size, print_room bytes (length out) h);
+            out_after = front_print s out out₂ bytes v z right size h ∙ ap (λ (n : ℕ). print_bytes s ++ drop n out) size;
           }

@@ -3,12 +3,13 @@
 
 ghost use Rattle.std.specs.Prelude.{◌≡◌, true, ◌≤◌, length};
 ghost use Rattle.rules.specs.Script.{accepted};
-ghost use Rattle.printing.specs.Passes.{WalkedFront, refused_by};
+ghost use Rattle.printing.specs.Passes.{WalkedFront};
 ghost use Rattle.printing.specs.Printing.{Printed};
 
 use first_error::first_start;
-use print_loop::{Walked, write};
+use print_loop::write;
 use questions::{Asked, ask_text};
+use text_parts::Flawed;
 
 // The numbers of the questions that printing adds, as include/aura_words.h names them.
 pub const REFUSED_MISTAKE: u64 = 11;
@@ -23,25 +24,12 @@ pub enum Answer {
 }
 
 // One pass of the print, over the first n bytes of a buffer; the others keep.
-fn write_front(script: &[u8], out: &mut [u8], n: usize) -> Walked
+fn write_front(script: &[u8], out: &mut [u8], n: usize) -> Result<usize, Flawed>
     requires script_value { accepted script.now ≡ true }
     requires n_in_bounds { n ≤ length out.old }
     ensures { WalkedFront script.now n out.old out.new result }
 {
     write(script, &mut out[..n])
-}
-
-// The number of the question that is answered with no: 11, then 12; 0 where both are answered with yes.
-fn refused_by(bad: bool, short: bool) -> u64
-    ensures { result ≡ refused_by bad short }
-{
-    if bad {
-        return REFUSED_MISTAKE;
-    }
-    if short {
-        return REFUSED_PRINT;
-    }
-    0
 }
 
 // Prints a script into a lent buffer: after the questions 1 and 2 whether it has an error, and whether the buffer holds its print. The first
@@ -53,14 +41,12 @@ pub fn print(script: &[u8], out: &mut [u8]) -> Answer
         return Answer::Refused(number, figure);
     }
     let size = out.len();
-    let w = write_front(script, out, 0);
-    let number = refused_by(w.bad, size < w.bytes);
-    if number == REFUSED_MISTAKE {
-        return Answer::Refused(number, first_start(script) as u64);
+    let Ok(bytes) = write_front(script, out, 0) else {
+        return Answer::Refused(REFUSED_MISTAKE, first_start(script) as u64);
+    };
+    if size < bytes {
+        return Answer::Refused(REFUSED_PRINT, bytes as u64);
     }
-    if number == REFUSED_PRINT {
-        return Answer::Refused(number, w.bytes as u64);
-    }
-    write_front(script, out, w.bytes);
-    Answer::Done(w.bytes)
+    let _ = write_front(script, out, bytes);
+    Answer::Done(bytes)
 }

@@ -22,7 +22,7 @@ use Rattle.doc_lines.specs.declared.Line.{Line}
 use Rattle.docs.specs.Texts.{line_text, feeds_after, lines_text}
 use Rattle.docs.proofs.Joining.{clean_lines, clean_text}
 use Rattle.docs.proofs.Cleaning.{empty_slice, feeds_one, feeds_none, feeds_more, line_bytes_lem}
-use Rattle.text_parts.specs.Lines.{line_left, lines_behind, text_left, left_size, GoodLine, GoodCursor, at_line, behind_feed, Passed, Begun, BehindLine, GoesOn}
+use Rattle.text_parts.specs.Lines.{line_left, lines_behind, text_left, left_size, GoodLine, GoodCursor, at_line, Passed, Begun, BehindLine, GoesOn}
 use Rattle.text_parts.specs.declared.Part.TheVariants as part
 use Rattle.text_parts.specs.declared.lines.Cursor.{Cursor}
 use Rattle.text_parts.proofs.Feedless.{line_feedless, nothing_feedless}
@@ -159,7 +159,7 @@ begin_small s r b =
 
 module _ (s : List ℕ) (c : Cursor) (g : GoodCursor s c) where
   abbrev stopped : Cursor
-  stopped = record { from = c.to; to = c.to; feeds = 0; next = c.next; last = true }
+  stopped = record c { from = c.to; feeds = 0 }
 
   pub behind_last : c.last ≡ true → BehindLine s c stopped
   behind_last e =
@@ -170,12 +170,12 @@ module _ (s : List ℕ) (c : Cursor) (g : GoodCursor s c) where
             record {
               forth = omega arith;
               inside = i.inside;
-              goes = λ f. absurd (true≢false f);
+              goes = λ f. absurd (true≢false (sym e ∙ f));
               within = i.within;
               few = omega arith;
               plain = rw (slice_empty c.to s) nothing_feedless;
             };
-        full = λ f. absurd (true≢false f);
+        full = λ f. absurd (true≢false (sym e ∙ f));
       } in
       record {
         good = good;
@@ -207,11 +207,11 @@ module _ (s : List ℕ) (c : Cursor) (g : GoodCursor s c) where
   shorter x d e h = omega (arith, ap length e ∙ length-append x (text_left s d))
 
   abbrev fewer : Cursor
-  fewer = behind_feed c
+  fewer = record c { feeds = c.feeds - 1 }
 
   -- A line feed that waits.
-  fed : (c.from ≡ c.to → ⊥) → 0 < c.feeds → GoesOn s c (record { part = part.Char LF; cursor = fewer; over = false })
-  fed n h =
+  pub next_feed : (c.from ≡ c.to → ⊥) → 0 < c.feeds → GoesOn s c (part.Char LF) fewer
+  next_feed n h =
       let i = g.line in
       let k = full n in
       let m : c.feeds ≡ suc (c.feeds - 1) = omega arith in
@@ -248,12 +248,9 @@ module _ (s : List ℕ) (c : Cursor) (g : GoodCursor s c) where
       same_behind k true e = behind_none s c e ∙ sym (behind_none s fewer e)
       same_behind k false e = behind_full s c e k ∙ sym (behind_full s fewer e k)
 
-  pub next_feed : (c.from ≡ c.to → ⊥) → 0 < c.feeds → (d : Cursor) → d ≡ behind_feed c → GoesOn s c (record { part = part.Char LF; cursor = d; over = false })
-  next_feed n h d e = rw e (fed n h)
-
   -- The line.
   pub next_line : (c.from ≡ c.to → ⊥) → c.feeds ≤ 0 → (d : Cursor) → BehindLine s c d
-      → GoesOn s c (record { part = part.Bytes c.from c.to; cursor = d; over = false })
+      → GoesOn s c (part.Bytes c.from c.to) d
   next_line n h d b =
       let i = g.line in
       let k = full n in

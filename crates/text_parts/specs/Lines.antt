@@ -1,5 +1,5 @@
 -- The text of a block doc comment in parts. `s` is the part of the script between the comment's marks.
-use Rattle.std.specs.Prelude.{◌≡◌, Bool, true, false, List, [], ◌++◌, map, ℕ, ◌-◌, ◌≤◌, ◌<◌, length, replicate, if◌then◌else◌}
+use Rattle.std.specs.Prelude.{◌≡◌, false, List, [], ◌++◌, map, ℕ, ◌≤◌, ◌<◌, length, replicate, if◌then◌else◌, Option, Some, None}
 use Rattle.std.proofs.Math.Seq.{slice}
 use Rattle.characters.specs.Choice.{◌is◌}
 use Rattle.characters.specs.Utf8.{chars_at, chars_of, encode}
@@ -11,7 +11,6 @@ use Rattle.text_parts.specs.Parts.{part_bytes, PartWithin}
 use Rattle.text_parts.specs.declared.Part.{Part}
 use Rattle.text_parts.specs.declared.Part.TheVariants as part
 use Rattle.text_parts.specs.declared.lines.Cursor.{Cursor}
-use Rattle.text_parts.specs.declared.lines.Step.{Step}
 
 -- ── What is left ──
 
@@ -52,19 +51,11 @@ pub record GoodCursor (s : List ℕ) (c : Cursor) : Type 0 where
 abbrev pub at_line : Line → ℕ → Cursor
 at_line l k = record { from = l.from; to = l.to; feeds = k; next = l.next; last = l.last }
 
--- The cursor where one line feed less waits.
-abbrev pub behind_feed : Cursor → Cursor
-behind_feed c = record { from = c.from; to = c.to; feeds = c.feeds - 1; next = c.next; last = c.last }
-
 -- If a line is left, a line feed waits before it.
 abbrev pub Waits : Cursor → Type 0
 Waits c = c.from < c.to → 0 < c.feeds
 
 -- ── The functions ──
-
--- The largest number of the code.
-abbrev pub LARGEST : ℕ
-LARGEST = 0xFFFFFFFFFFFFFFFF
 
 -- Past empty lines.
 pub record Passed (s : List ℕ) (c r : Cursor) : Type 0 where
@@ -92,21 +83,19 @@ PartBefore s d (part.Bytes from to) = (one_of (slice from to s) LF ≡ false) ×
 PartBefore s d (part.Char c) = (c ≡ LF) × (d.from < d.to)
 PartBefore s d part.Nothing = ⊥
 
--- The next part: what is left is it, and then what is left behind it. It is a line feed where one waits, and else the line.
-pub record GoesOn (s : List ℕ) (c : Cursor) (r : Step) : Type 0 where
+-- The next part `x`, with the cursor `d` behind it: what is left is the part, and then what is left behind it. It is a line feed where one
+-- waits, and else the line.
+pub record GoesOn (s : List ℕ) (c : Cursor) (x : Part) (d : Cursor) : Type 0 where
   pub here : c.from < c.to
-  pub text : text_left s c ≡ part_bytes s r.part ++ text_left s r.cursor
-  pub good : GoodCursor s r.cursor
-  pub inside : PartWithin s r.part
-  pub kind : PartBefore s r.cursor r.part
-  pub feed : 0 < c.feeds → r.part ≡ part.Char LF
-  pub line : c.feeds ≡ 0 → r.part ≡ part.Bytes c.from c.to
-  pub less : left_size s r.cursor < left_size s c
+  pub text : text_left s c ≡ part_bytes s x ++ text_left s d
+  pub good : GoodCursor s d
+  pub inside : PartWithin s x
+  pub kind : PartBefore s d x
+  pub feed : 0 < c.feeds → x ≡ part.Char LF
+  pub line : c.feeds ≡ 0 → x ≡ part.Bytes c.from c.to
+  pub less : left_size s d < left_size s c
 
 -- The next part, or nothing is left.
-abbrev pub NextBy : Bool → List ℕ → Cursor → Step → Type 0
-NextBy true s c r = text_left s c ≡ []
-NextBy false s c r = GoesOn s c r
-
-abbrev pub NextAt : List ℕ → Cursor → Step → Type 0
-NextAt s c r = NextBy r.over s c r
+abbrev pub NextAt : List ℕ → Cursor → Option (Part × Cursor) → Type 0
+NextAt s c (Some (x, d)) = GoesOn s c x d
+NextAt s c None = text_left s c ≡ []

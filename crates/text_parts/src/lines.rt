@@ -1,8 +1,7 @@
 // The text of a block doc comment: its cleaned lines, joined by line feeds. Places are those of the part of the script between the
 // comment's marks.
-ghost use Rattle.std.specs.Prelude.{◌≡◌, true, ◌<◌};
-ghost use Rattle.docs.specs.Texts.{feeds_after};
-ghost use Rattle.text_parts.specs.Lines.{LARGEST, GoodLine, GoodCursor, at_line, behind_feed, Passed, Begun, BehindLine, NextAt};
+ghost use Rattle.std.specs.Prelude.{◌≡◌};
+ghost use Rattle.text_parts.specs.Lines.{GoodLine, GoodCursor, at_line, Passed, Begun, BehindLine, NextAt};
 
 use super::Part;
 use doc_lines::Line;
@@ -20,14 +19,6 @@ pub struct Cursor {
     pub last: bool,
 }
 
-// The next part and the cursor behind it; or the text is over.
-#[derive(Clone, Copy)]
-pub struct Step {
-    pub part: Part,
-    pub cursor: Cursor,
-    pub over: bool,
-}
-
 fn at_line(l: Line, feeds: usize) -> Cursor
     ensures { result ≡ at_line l feeds }
 {
@@ -38,17 +29,6 @@ fn at_line(l: Line, feeds: usize) -> Cursor
         next: l.next,
         last: l.last,
     }
-}
-
-// The line feeds that wait behind an empty line: none before the first line that is not empty.
-fn one_more(feeds: usize) -> usize
-    requires { feeds < LARGEST }
-    ensures { result ≡ feeds_after feeds true }
-{
-    if feeds == 0 {
-        return 0;
-    }
-    feeds + 1
 }
 
 // Past empty lines, to a line that is not empty or to the last one.
@@ -64,7 +44,7 @@ fn past_empty(part: &[u8], c: Cursor) -> Cursor
         if at.last {
             return at;
         }
-        let feeds = one_more(at.feeds);
+        let feeds = docs::feeds_after(at.feeds, true);
         let l = doc_lines::line_at(part, at.next);
         at = at_line(l, feeds);
     }
@@ -86,52 +66,25 @@ fn behind_line(part: &[u8], c: Cursor) -> Cursor
     if c.last {
         return Cursor {
             from: c.to,
-            to: c.to,
             feeds: 0,
-            next: c.next,
-            last: true,
+            ..c
         };
     }
     let l = doc_lines::line_at(part, c.next);
     past_empty(part, at_line(l, 1))
 }
 
-// One line feed less waits.
-fn behind_feed(c: Cursor) -> Cursor
-    requires { 0 < c.feeds }
-    ensures { result ≡ behind_feed c }
-{
-    Cursor {
-        from: c.from,
-        to: c.to,
-        feeds: c.feeds - 1,
-        next: c.next,
-        last: c.last,
-    }
-}
-
-// The next part: a line feed that waits, or the line.
-pub fn next(part: &[u8], c: Cursor) -> Step
+// The next part, a line feed that waits or the line, and the cursor behind it; none where the text is over.
+pub fn next(part: &[u8], c: Cursor) -> Option<(Part, Cursor)>
     requires { GoodCursor part.now c }
     ensures { NextAt part.now c result }
 {
     if c.from == c.to {
-        return Step {
-            part: Part::Nothing,
-            cursor: c,
-            over: true,
-        };
+        return None;
     }
     if 0 < c.feeds {
-        return Step {
-            part: Part::Char(LINE_FEED),
-            cursor: behind_feed(c),
-            over: false,
-        };
+        let feeds = c.feeds - 1;
+        return Some((Part::Char(LINE_FEED), Cursor { feeds, ..c }));
     }
-    Step {
-        part: Part::Bytes(c.from, c.to),
-        cursor: behind_line(part, c),
-        over: false,
-    }
+    Some((Part::Bytes(c.from, c.to), behind_line(part, c)))
 }

@@ -4,8 +4,8 @@ use lib.ListN.{length}
 use Rattle.print_loop.proofs.Walks.{Walking}
 use Rattle.print_loop.proofs.write.Given as goal
 
-abbrev pub invariant-loop-text : goal.invariant-loop-text
-invariant-loop-text l = Walking l.script l.text l.initial.out l.out l.from l.due l.at
+abbrev pub invariant-loop-w : goal.invariant-loop-w
+invariant-loop-w l = Walking l.script l.text l.initial.out l.out l.from l.due l.at
 
-abbrev pub decreases-loop-text : goal.decreases-loop-text
-decreases-loop-text l = length l.text - l.from
+abbrev pub decreases-loop-w : goal.decreases-loop-w
+decreases-loop-w l = length l.text - l.from

@@ -4,8 +4,8 @@ use lib.ListN.{length}
 use Rattle.print_skips.specs.Gaps.{Passed}
 use Rattle.print_skips.proofs.skip.Given as goal
 
-abbrev pub invariant-loop-from : goal.invariant-loop-from
-invariant-loop-from l = Passed l.text l.from l.next
+abbrev pub invariant-loop-w : goal.invariant-loop-w
+invariant-loop-w l = Passed l.text l.from l.next
 
-abbrev pub decreases-loop-from : goal.decreases-loop-from
-decreases-loop-from l = length l.text - l.next
+abbrev pub decreases-loop-w : goal.decreases-loop-w
+decreases-loop-w l = length l.text - l.next

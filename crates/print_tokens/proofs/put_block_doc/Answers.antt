@@ -6,7 +6,7 @@ use Rattle.characters.specs.Utf8.{chars_at}
 use Rattle.spans.specs.declared.Position.{Position}
 use Rattle.bridge.specs.Bridge.{Within}
 use Rattle.walks.specs.Openings.{opens_doc}
-use Rattle.print_tokens.proofs.Faults.{token_wrong, wrong_emitted}
+use Rattle.print_tokens.proofs.Faults.{token_wrong}
 use Rattle.print_tokens.proofs.Comments.{part_small, block_placed, block_emits}
 use Rattle.print_tokens.proofs.put_block_doc.Goals as goal
 
@@ -18,7 +18,7 @@ doc_block-d-requires c =
 pub returns-then-d-gt0 : goal.returns-then-d-gt0
 returns-then-d-gt0 c =
     let b = block_placed c.args.text.now c.args.from _ _ _ _ c.at_place.ensures c.doc_block-d.ensures in
-    wrong_emitted _ c.args.text.now c.args.from _ _ _ _ c.wrong.ensures (token_wrong c.args.text.now c.args.from _ _ _ b.one _ _ _ b.written (omega (arith, c.if-d-gt0.true)))
+    token_wrong c.args.text.now c.args.from _ _ _ b.one _ _ _ b.written (omega (arith, c.if-d-gt0.true))
 
 pub put_block_doc-requires : goal.put_block_doc-requires
 put_block_doc-requires c =

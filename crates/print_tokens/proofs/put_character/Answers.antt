@@ -7,7 +7,7 @@ use Rattle.spans.specs.declared.Position.{Position}
 use Rattle.rules.specs.Text.{ch}
 use Rattle.rules.specs.Scan.{next}
 use Rattle.bridge.specs.Bridge.{Within, exactly}
-use Rattle.print_tokens.proofs.Faults.{token_wrong, wrong_emitted}
+use Rattle.print_tokens.proofs.Faults.{token_wrong}
 use Rattle.print_tokens.proofs.Letters.{letter_placed, letter_few, letter_emits}
 use Rattle.print_tokens.proofs.put_character.Goals as goal
 
@@ -19,7 +19,7 @@ character-l-requires c =
 pub returns-then-l-gt0 : goal.returns-then-l-gt0
 returns-then-l-gt0 c =
     let l = letter_placed c.args.text.now c.args.from _ _ _ _ _ _ c.at_place.ensures c.character-l.ensures in
-    wrong_emitted _ c.args.text.now c.args.from _ _ _ _ c.wrong.ensures (token_wrong c.args.text.now c.args.from _ _ _ l.one _ _ _ l.written (omega (arith, c.if-l-gt0.true)))
+    token_wrong c.args.text.now c.args.from _ _ _ l.one _ _ _ l.written (omega (arith, c.if-l-gt0.true))
 
 pub put_made-requires : goal.put_made-requires
 put_made-requires c =

@@ -7,7 +7,7 @@ use Rattle.spans.specs.declared.Position.{Position}
 use Rattle.rules.specs.Scan.{starts_with}
 use Rattle.bridge.specs.Bridge.{Within}
 use Rattle.walks.specs.Walks.{quotes}
-use Rattle.print_tokens.proofs.Faults.{token_wrong, wrong_emitted}
+use Rattle.print_tokens.proofs.Faults.{token_wrong}
 use Rattle.print_tokens.proofs.Quoted.{raw_placed, raw_inside, raw_small, raw_emits}
 use Rattle.print_tokens.proofs.put_raw.Goals as goal
 
@@ -19,7 +19,7 @@ raw-m-requires c =
 pub returns-then-m-gt0 : goal.returns-then-m-gt0
 returns-then-m-gt0 c =
     let r = raw_placed c.args.text.now c.args.from _ _ _ _ _ _ c.at_place.ensures c.raw-m.ensures in
-    wrong_emitted _ c.args.text.now c.args.from _ _ _ _ c.wrong.ensures (token_wrong c.args.text.now c.args.from _ _ _ r.one _ _ _ r.written (omega (arith, c.if-m-gt0.true)))
+    token_wrong c.args.text.now c.args.from _ _ _ r.one _ _ _ r.written (omega (arith, c.if-m-gt0.true))
 
 pub overflow_add-begin : goal.overflow_add-begin
 overflow_add-begin c =

@@ -7,7 +7,7 @@ returns-then-c c = left_over _ c.args.c c.requires c.if-c.true
 
 pub returns-then-c-gt0 : goal.returns-then-c-gt0
 returns-then-c-gt0 c =
-    next_feed _ c.args.c c.requires c.if-c.false c.if-c-gt0.true _ c.behind_feed.ensures
+    next_feed _ c.args.c c.requires c.if-c.false c.if-c-gt0.true
 
 pub returns : goal.returns
 returns c =

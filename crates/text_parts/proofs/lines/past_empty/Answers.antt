@@ -15,8 +15,8 @@ returns-then-at c = pass_end _ _ _ c.loop-at.invariant (λ _. c.if-at.true)
 pub returns-then-at-2 : goal.returns-then-at-2
 returns-then-at-2 c = pass_end _ _ _ c.loop-at.invariant (λ f. absurd (true≢false (sym c.if-at-2.true ∙ f)))
 
-pub one_more-feeds-requires : goal.one_more-feeds-requires
-one_more-feeds-requires c =
+pub feeds_after-feeds-requires : goal.feeds_after-feeds-requires
+feeds_after-feeds-requires c =
     omega (arith, c.loop-at.invariant.good.few, c.loop-at.invariant.good.goes c.if-at-2.false, c.loop-at.invariant.good.within)
 
 pub line_at-l-requires : goal.line_at-l-requires
@@ -30,4 +30,4 @@ loop-at-smaller c =
 pub loop-at-preserved : goal.loop-at-preserved
 loop-at-preserved c =
     pass_more _ _ _ c.loop-at.invariant c.if-at.false c.if-at-2.false _ _ _ c.line_at-l.ensures
-    c.one_more-feeds.ensures c.at_line-at.ensures
+    c.feeds_after-feeds.ensures c.at_line-at.ensures

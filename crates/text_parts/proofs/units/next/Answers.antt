@@ -1,7 +1,6 @@
 -- `text_parts::units::next` meets its contract. Assumes nothing.
-use mathlib.Core.Path.{sym, ◌∙◌, subst}
+use mathlib.Core.Path.{sym, ◌∙◌}
 use native.Mathlib.Omega.{arith}
-use Rattle.text_parts.specs.Units.{NextAt}
 use Rattle.text_parts.proofs.Strings.{quote_over, plain_on, none_on, short_on}
 use Rattle.text_parts.proofs.units.next.Goals as goal
 
@@ -9,9 +8,7 @@ pub returns-then-from-to : goal.returns-then-from-to
 returns-then-from-to c = plain_on _ _ _ c.plain_end-to.ensures c.if-from-to.true
 
 pub returns-then-is_at : goal.returns-then-is_at
-returns-then-is_at c =
-    subst (NextAt c.args.text.now c.args.from) (sym c.over_step.ensures)
-    (none_on _ _ (quote_over _ _ (sym c.is_at.ensures ∙ c.if-is_at.true)))
+returns-then-is_at c = none_on _ _ (quote_over _ _ (sym c.is_at.ensures ∙ c.if-is_at.true))
 
 pub short_escape-requires : goal.short_escape-requires
 short_escape-requires c =
