@@ -87,7 +87,8 @@ fn is_plain(x: u8, y: u8, z: u8, b: u8) -> bool
     (BEHIND_LINE_FEED <= b) & !(b == x) & !(b == y) & !(b == z)
 }
 
-// The position after the plain characters at p. It goes byte by byte: each byte but a character's tails is a column.
+// The position after the plain characters at p. It goes byte by byte: each byte but a character's tails is a column. The place and the
+// column are counted together, so that an iterator over the bytes would be no plainer.
 pub fn past_plain(text: &[u8], p: Position, x: u8, y: u8, z: u8) -> Position
     requires within { Within text.now p }
     requires stops { Stops x y z }

@@ -31,7 +31,8 @@ fn ascii16(text: &[u8], at: usize) -> bool
     ascii4(text, at) & ascii4(text, b) & ascii4(text, c) & ascii4(text, d)
 }
 
-// The place behind the blocks of sixteen ASCII bytes from a place on.
+// The place behind the blocks of sixteen ASCII bytes from a place on. The answer is a place, which blocks of `chunks` would have to count
+// too: no plainer.
 fn past_ascii(text: &[u8], from: usize) -> usize
     requires { from ≤ length text.now }
     ensures { Clean text.now from result }
@@ -47,7 +48,8 @@ fn past_ascii(text: &[u8], from: usize) -> usize
 }
 
 // The check of the sequences from a place on, one by one: it goes on from the place behind `stop` that it reaches, or breaks off with
-// its answer. Behind `stop` there are three bytes.
+// its answer. Behind `stop` there are three bytes. It steps by the widths of sequences, here and in `past_rest`: no iterator of bytes
+// does.
 fn past_good(text: &[u8], from: usize, stop: usize) -> ControlFlow<Option<usize>, usize>
     requires from_in_bounds { from ≤ length text.now }
     requires stop_in_bounds { stop + 3 ≤ length text.now }
