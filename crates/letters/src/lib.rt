@@ -26,9 +26,10 @@ fn escape(text: &[u8], p: Position, e: u32, r: Position) -> Unit
     if e == LETTER_U {
         return string_units::unicode(text, p, r);
     }
+    let v = escapes::escaped(e).unwrap_or(e);
     Unit {
         next: r,
-        made: Made::Char(escapes::escaped(e).unwrap_or(e)),
+        made: Made::Char(v),
         mistake: None,
     }
 }

@@ -19,4 +19,4 @@ returns-then-e-eq-LETTER_U c =
 
 pub returns : goal.returns
 returns c =
-    letter_or c.args.text.now c.args.p c.args.r c.args.e c.requires.reach (chars_at c.args.text.now c.args.r.offset) c.if-e-eq-LETTER_U.false _ _ c.requires.e_bound c.escaped.ensures c.unwrap_or.ensures
+    letter_or c.args.text.now c.args.p c.args.r c.args.e c.requires.reach (chars_at c.args.text.now c.args.r.offset) c.if-e-eq-LETTER_U.false _ _ c.requires.e_bound c.escaped.ensures c.unwrap_or-v.ensures
