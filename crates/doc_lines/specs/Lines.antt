@@ -1,6 +1,6 @@
 -- What the functions of the doc comments' cleaner answer. `s` is the part of a script between a comment's marks; places are bytes
 -- of it.
-use Rattle.std.specs.Prelude.{◌≡◌, Bool, true, false, ◌&&◌, not, List, [], ◌∷◌, ℕ, ◌+◌, ◌≤◌, ◌<◌, leb, length, get_or, if◌then◌else◌}
+use Rattle.std.specs.Prelude.{◌≡◌, Bool, true, false, ◌&&◌, not, List, [], ◌∷◌, ℕ, ◌+◌, ◌≤◌, ◌<◌, leb, length, get_or, if◌then◌else◌, Option, Some, None}
 use Rattle.std.proofs.Math.Seq.{slice}
 use Rattle.characters.specs.Choice.{◌is◌, within}
 use Rattle.characters.specs.Space.{is_white}
@@ -8,8 +8,6 @@ use Rattle.characters.specs.Utf8.{width, chars_at, encode}
 use Rattle.rules.specs.Text.{Char, Text, ch, LF}
 use Rattle.rules.specs.Scan.{run}
 use Rattle.runs.specs.Runs.{RunTo}
-use Rattle.doc_lines.specs.declared.Next.{Next}
-use Rattle.doc_lines.specs.declared.Next.TheVariants as next
 use Rattle.doc_lines.specs.declared.Line.{Line}
 
 -- The character `c` stands at a place, and `n` is the place after it.
@@ -19,9 +17,9 @@ pub record CharAt (s : List ℕ) (at c n : ℕ) : Type 0 where
   pub inside : n ≤ length s
 
 -- What stands at a place: a character; or no character is left.
-abbrev pub NextAt : List ℕ → ℕ → Next → Type 0
-NextAt s at (next.Char c n) = CharAt s at c n
-NextAt s at next.Nothing = chars_at s at ≡ []
+abbrev pub NextAt : List ℕ → ℕ → Option (ℕ × ℕ) → Type 0
+NextAt s at (Some (c, n)) = CharAt s at c n
+NextAt s at None = chars_at s at ≡ []
 
 -- From one place to another, past the characters that pass the test.
 pub record Skipped (test : Char → Bool) (s : List ℕ) (from to : ℕ) : Type 0 where

@@ -13,13 +13,6 @@ const LINE_FEED: u32 = b'\n' as u32;
 
 const STAR: u32 = b'*' as u32;
 
-// What stands at a place: a character, and the place after it; or nothing.
-#[derive(Clone, Copy)]
-pub enum Next {
-    Char(u32, usize),
-    Nothing,
-}
-
 // A line is part[from..to]. The next one begins at `next`, unless it is the last.
 #[derive(Clone, Copy)]
 pub struct Line {
@@ -29,22 +22,22 @@ pub struct Line {
     pub last: bool,
 }
 
-// What stands at a place of the part.
-fn char_at(part: &[u8], at: usize) -> Next
+// What stands at a place of the part: a character, and the place after it; or nothing.
+fn char_at(part: &[u8], at: usize) -> Option<(u32, usize)>
     ensures { NextAt part.now at result }
 {
     if part.len() <= at {
-        return Next::Nothing;
+        return None;
     }
     let b = part[at];
     if b < 0x80 {
-        return Next::Char(b as u32, at + 1);
+        return Some((b as u32, at + 1));
     }
     let d = sequences::decode(part, at);
     match d {
-        Decoded::Code(c, n) => Next::Char(c, at + n),
-        Decoded::Bad => Next::Nothing,
-        Decoded::End => Next::Nothing,
+        Decoded::Code(c, n) => Some((c, at + n)),
+        Decoded::Bad => None,
+        Decoded::End => None,
     }
 }
 
@@ -52,7 +45,7 @@ fn char_at(part: &[u8], at: usize) -> Next
 fn ends_line(split: bool, c: u32) -> bool
     ensures { result ≡ not (in_line split c) }
 {
-    if split { c == LINE_FEED } else { false }
+    split && c == LINE_FEED
 }
 
 // White space of a line.
@@ -91,7 +84,7 @@ fn stops(part: &[u8], at: usize, split: bool) -> bool
     if is_ink(b) {
         return true;
     }
-    if split { b == b'\n' } else { false }
+    split && b == b'\n'
 }
 
 // Past the white space of a line.
@@ -104,8 +97,7 @@ pub fn past_blanks(part: &[u8], from: usize, split: bool) -> usize
         if stops(part, at, split) {
             return at;
         }
-        let n = char_at(part, at);
-        let Next::Char(c, next) = n else {
+        let Some((c, next)) = char_at(part, at) else {
             return at;
         };
         if !is_blank(split, c) {
@@ -122,8 +114,7 @@ fn past_stars(part: &[u8], from: usize) -> usize
 {
     let mut at = from;
     loop {
-        let n = char_at(part, at);
-        let Next::Char(c, next) = n else {
+        let Some((c, next)) = char_at(part, at) else {
             return at;
         };
         if c != STAR {
@@ -157,8 +148,7 @@ pub fn trimmed_line(part: &[u8], from: usize, split: bool) -> Line
     loop {
         let q = past_ink(part, at);
         let end = ink_end(at, q, to);
-        let n = char_at(part, q);
-        let Next::Char(c, next) = n else {
+        let Some((c, next)) = char_at(part, q) else {
             return Line {
                 from,
                 to: end,

@@ -1,4 +1,5 @@
 -- Laws of a character written into a buffer with no condition on it. Assumes nothing.
+use Rattle.std.specs.Prelude.{Some, None}
 use mathlib.Core.Path.{◌≡◌, refl}
 use mathlib.Core.Bool.{true, false, and-false}
 use mathlib.Core.List.{List}
@@ -8,7 +9,6 @@ use lib.Seq.{sets}
 use borrow.Author.Tests.{le-leb, lt-leb}
 use Rattle.characters.specs.Utf8.{is_scalar, width, encode_char}
 use Rattle.encoding.specs.Encoding.{has_room, encoded_at, buffer_after}
-use Rattle.encoding.specs.declared.Encoded.TheVariants.{Written, Refused}
 
 module _ (c at size : ℕ) where
   pub room_yes : is_scalar c ≡ true → at + width c ≤ size → has_room c at size ≡ true
@@ -24,11 +24,11 @@ module _ (c at size : ℕ) where
   room_too_small h = rw (lt-leb (at + width c) size h) (and-false (is_scalar c))
 
 module _ (c at : ℕ) (buf : List ℕ) where
-  pub encode_refused : has_room c at (length buf) ≡ false → (Refused ≡ encoded_at c at (length buf)) × (buf ≡ buffer_after c at buf)
+  pub encode_refused : has_room c at (length buf) ≡ false → (None ≡ encoded_at c at (length buf)) × (buf ≡ buffer_after c at buf)
   unfolding encoded_at buffer_after
   encode_refused e = rw e (refl, refl)
 
   pub encode_written : (n : ℕ) (out : List ℕ) → has_room c at (length buf) ≡ true → n ≡ width c → out ≡ sets buf at (encode_char c)
-      → (Written n ≡ encoded_at c at (length buf)) × (out ≡ buffer_after c at buf)
+      → (Some n ≡ encoded_at c at (length buf)) × (out ≡ buffer_after c at buf)
   unfolding encoded_at buffer_after
   encode_written n out e f g = rw (e, f) (refl, g)

@@ -1,17 +1,15 @@
 -- A character written into a lent buffer at a place, whatever the number and the place.
-use Rattle.std.specs.Prelude.{ℕ, ◌+◌, Bool, ◌&&◌, List, leb, length, if◌then◌else◌}
+use Rattle.std.specs.Prelude.{ℕ, ◌+◌, Bool, ◌&&◌, List, leb, length, if◌then◌else◌, Option, Some, None}
 use Rattle.std.proofs.lemmas.List.Edits.{sets}
 use Rattle.characters.specs.Utf8.{is_scalar, width, encode_char}
-use Rattle.encoding.specs.declared.Encoded.{Encoded}
-use Rattle.encoding.specs.declared.Encoded.TheVariants.{Written, Refused}
 
 -- The number is a character, and a buffer of so many octets has room for it at the place.
 unfoldable pub has_room : ℕ → ℕ → ℕ → Bool
 has_room c at size = is_scalar c && leb (at + width c) size
 
 -- The answer: the number of octets written, or a refusal.
-unfoldable pub encoded_at : ℕ → ℕ → ℕ → Encoded
-encoded_at c at size = if has_room c at size then Written (width c) else Refused
+unfoldable pub encoded_at : ℕ → ℕ → ℕ → Option ℕ
+encoded_at c at size = if has_room c at size then Some (width c) else None
 
 -- The buffer afterwards: the character's octets from the place on, and all else kept. A refusal keeps the whole.
 unfoldable pub buffer_after : ℕ → ℕ → List ℕ → List ℕ

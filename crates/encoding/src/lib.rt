@@ -6,13 +6,6 @@ ghost use Rattle.std.proofs.lemmas.List.Edits.{sets};
 ghost use Rattle.characters.specs.Utf8.{is_scalar, width, encode_char};
 ghost use Rattle.encoding.specs.Encoding.{encoded_at, buffer_after};
 
-#[derive(Clone, Copy)]
-pub enum Encoded {
-    // The number of bytes.
-    Written(usize),
-    Refused,
-}
-
 // Whether a number is a character.
 pub fn is_scalar(c: u32) -> bool
     ensures { result ≡ is_scalar c }
@@ -75,22 +68,22 @@ pub fn put_char(buf: &mut [u8], at: usize, c: u32) -> usize
     at + 4
 }
 
-// A character at a place of a buffer, whatever the number and the place.
-pub fn encode_char(c: u32, buf: &mut [u8], at: usize) -> Encoded
+// A character at a place of a buffer, whatever the number and the place: the number of bytes, or none where it is refused.
+pub fn encode_char(c: u32, buf: &mut [u8], at: usize) -> Option<usize>
     ensures value { result ≡ encoded_at c at (length buf.old) }
     ensures buf_after { buf.new ≡ buffer_after c at buf.old }
 {
     let size = buf.len();
     let n = width_of(c);
     if !is_scalar(c) {
-        return Encoded::Refused;
+        return None;
     }
     if size < n {
-        return Encoded::Refused;
+        return None;
     }
     if size - n < at {
-        return Encoded::Refused;
+        return None;
     }
     put_char(buf, at, c);
-    Encoded::Written(n)
+    Some(n)
 }

@@ -1,8 +1,6 @@
 -- What the host's calls on characters answer, as numbers.
 use Rattle.std.specs.Prelude.{ℕ, List, drop, Option, Some, None}
 use Rattle.characters.specs.Utf8.{bad_class}
-use Rattle.encoding.specs.declared.Encoded.{Encoded}
-use Rattle.encoding.specs.declared.Encoded.TheVariants.{Written, Refused}
 
 -- 0 for a yes, else the number of the refusal.
 unfoldable pub check_number : List ℕ → Option ℕ → ℕ
@@ -15,6 +13,6 @@ check_figure None old = old
 check_figure (Some at) old = at
 
 -- The bytes written, 0 for a refusal.
-unfoldable pub written : Encoded → ℕ
-written (Written n) = n
-written Refused = 0
+unfoldable pub written : Option ℕ → ℕ
+written (Some n) = n
+written None = 0

@@ -10,7 +10,6 @@ ghost use Rattle.host_answers.specs.Answers.{truth};
 ghost use Rattle.host_characters.specs.Characters.{check_number, check_figure, written};
 
 use characters::space;
-use encoding::Encoded;
 
 // 0 where the text is UTF-8, and the figure keeps; else the number of the refusal, whose figure is the first byte of the first bad
 // sequence.
@@ -44,7 +43,7 @@ pub fn encode_char(code: u32, buffer: &mut [u8], at: usize) -> u64
     ensures value { result ≡ written (encoded_at code at (length buffer.old)) }
     ensures buffer_after { buffer.new ≡ buffer_after code at buffer.old }
 {
-    let Encoded::Written(n) = encoding::encode_char(code, buffer, at) else {
+    let Some(n) = encoding::encode_char(code, buffer, at) else {
         return 0;
     };
     n as u64

@@ -1,5 +1,5 @@
 -- White space and the comments that are skipped.
-use Rattle.std.specs.Prelude.{◌≡◌, Bool, true, false, not, List, [], ◌∷◌, ℕ, ◌+◌, ◌*◌, ◌-◌, ◌≤◌, ◌<◌}
+use Rattle.std.specs.Prelude.{◌≡◌, Bool, true, false, not, List, [], ◌∷◌, ℕ, ◌+◌, ◌*◌, ◌-◌, ◌≤◌, ◌<◌, Option, Some, None}
 use Rattle.characters.specs.Space.{is_white}
 use Rattle.characters.specs.Utf8.{chars_at}
 use Rattle.spans.specs.declared.Position.{Position}
@@ -19,8 +19,6 @@ use Rattle.records.specs.Fields.{LONGEST_ERROR}
 use Rattle.walks.specs.Errors.{unclosed}
 use Rattle.walks.specs.Segments.{segment_at, errors_at}
 use Rattle.walks.specs.declared.Closing.{Closing}
-use Rattle.skipping.specs.declared.Comment.{Comment}
-use Rattle.skipping.specs.declared.Comment.TheVariants as answer
 use Rattle.skipping.specs.declared.Skipped.{Skipped}
 
 unfoldable pub is_skipped_sort : Sort → Bool
@@ -59,9 +57,9 @@ pub record PastComment (s : List ℕ) (p : Position) (c : Closing) : Type 0 wher
   pub all : c.found ≡ false → chars_at s c.at.offset ≡ []
 
 -- The comment at a position, or none.
-abbrev pub CommentAt : List ℕ → Position → Comment → Type 0
-CommentAt s p (answer.Past c) = PastComment s p c
-CommentAt s p answer.Nothing = (opens_line (chars_at s p.offset) ≡ false) × (opens_block (chars_at s p.offset) ≡ false)
+abbrev pub CommentAt : List ℕ → Position → Option Closing → Type 0
+CommentAt s p (Some c) = PastComment s p c
+CommentAt s p None = (opens_line (chars_at s p.offset) ≡ false) × (opens_block (chars_at s p.offset) ≡ false)
 
 -- White space and comments from `p` on, behind which there are no more: they yield only the errors that are written from `used` on,
 -- and those are bounded by what was passed, so that places fit.

@@ -21,13 +21,6 @@ const LINE_FEED: u32 = b'\n' as u32;
 // The column behind a line feed that is skipped, as in the Rust (lexer.rs, lines 350 to 355).
 const SKIPPED_LINE_COLUMN: usize = 2;
 
-// A comment that is skipped: the position behind it, and whether it is closed; or none.
-#[derive(Clone, Copy)]
-pub enum Comment {
-    Past(Closing),
-    Nothing,
-}
-
 // The position behind what was skipped, the place after its errors, and whether the text ran out in it.
 #[derive(Clone, Copy)]
 pub struct Skipped {
@@ -130,23 +123,23 @@ pub fn block_at(text: &[u8], at: usize) -> bool
         && (!bridge::is_at(text, at + 2, b'*') || bridge::is_at(text, at + 3, b'/'))
 }
 
-// The comment at a position.
-fn comment_at(text: &[u8], p: Position) -> Comment
+// The comment at a position: the position behind it, and whether it is closed; or none.
+fn comment_at(text: &[u8], p: Position) -> Option<Closing>
     requires { Within text.now p }
     ensures { CommentAt text.now p result }
 {
     if line_at(text, p.offset) {
         let c = walk::to_byte(text, bridge::along(p, 2), b'\n');
         let at = c.at;
-        return Comment::Past(Closing { at, found: true });
+        return Some(Closing { at, found: true });
     }
     if block_at(text, p.offset) {
         let c = walk::to_pair(text, bridge::along(p, 2));
         let at = walk::behind_mark(c, 2);
         let found = c.found;
-        return Comment::Past(Closing { at, found });
+        return Some(Closing { at, found });
     }
-    Comment::Nothing
+    None
 }
 
 // Past white space and comments. The error of a comment that is not closed is written.
@@ -158,7 +151,7 @@ pub fn skip(text: &[u8], p: Position, errors: &mut [u8], used: usize) -> Skipped
     let mut at = p;
     loop {
         at = skip_white(text, at);
-        let Comment::Past(c) = comment_at(text, at) else {
+        let Some(c) = comment_at(text, at) else {
             return Skipped {
                 at,
                 errors: used,

@@ -16,20 +16,20 @@ returns-then-stops c =
 
 pub returns-in_default : goal.returns-in_default
 returns-in_default c =
-    let e = subst (NextAt c.args.part.now c.loop-from.at) c.in_default.is c.char_at-n.ensures in
+    let e = subst (NextAt c.args.part.now c.loop-from.at) c.in_default.is c.char_at.ensures in
     skip_end _ c.args.part.now _ c.loop-from.at c.loop-from.invariant e
 
 pub returns-then-not-is_blank : goal.returns-then-not-is_blank
 returns-then-not-is_blank c =
-    let w = subst (NextAt c.args.part.now c.loop-from.at) c.in-Char.is c.char_at-n.ensures in
-    skip_stop _ c.args.part.now _ c.loop-from.at c.loop-from.invariant c.in-Char.c c.in-Char.next w (sym c.is_blank.ensures ∙ c.if-not-is_blank.true)
+    let w = subst (NextAt c.args.part.now c.loop-from.at) c.in-Some.is c.char_at.ensures in
+    skip_stop _ c.args.part.now _ c.loop-from.at c.loop-from.invariant c.in-Some.c c.in-Some.next w (sym c.is_blank.ensures ∙ c.if-not-is_blank.true)
 
 pub loop-from-smaller : goal.loop-from-smaller
 loop-from-smaller c =
-    let w = subst (NextAt c.args.part.now c.loop-from.at) c.in-Char.is c.char_at-n.ensures in
-    omega (arith, w.place, w.inside, width_bounds c.in-Char.c)
+    let w = subst (NextAt c.args.part.now c.loop-from.at) c.in-Some.is c.char_at.ensures in
+    omega (arith, w.place, w.inside, width_bounds c.in-Some.c)
 
 pub loop-from-preserved : goal.loop-from-preserved
 loop-from-preserved c =
-    let w = subst (NextAt c.args.part.now c.loop-from.at) c.in-Char.is c.char_at-n.ensures in
-    skip_more _ c.args.part.now _ c.loop-from.at c.loop-from.invariant c.in-Char.c c.in-Char.next w (sym c.is_blank.ensures ∙ c.if-not-is_blank.false)
+    let w = subst (NextAt c.args.part.now c.loop-from.at) c.in-Some.is c.char_at.ensures in
+    skip_more _ c.args.part.now _ c.loop-from.at c.loop-from.invariant c.in-Some.c c.in-Some.next w (sym c.is_blank.ensures ∙ c.if-not-is_blank.false)

@@ -12,22 +12,22 @@ loop-c-init c = skip_start _ _ _ c.requires
 
 pub returns-in_default : goal.returns-in_default
 returns-in_default c =
-    let e = subst (NextAt c.args.part.now c.loop-c.at) c.in_default.is c.char_at-n.ensures in
+    let e = subst (NextAt c.args.part.now c.loop-c.at) c.in_default.is c.char_at.ensures in
     skip_end _ c.args.part.now _ c.loop-c.at c.loop-c.invariant e
 
 pub returns-then-c-ne-STAR : goal.returns-then-c-ne-STAR
 unfolding is_star
 returns-then-c-ne-STAR c =
-    let w = subst (NextAt c.args.part.now c.loop-c.at) c.in-Char.is c.char_at-n.ensures in
-    skip_stop _ c.args.part.now _ c.loop-c.at c.loop-c.invariant c.in-Char.c c.in-Char.next w (ne_eqb _ 42 c.if-c-ne-STAR.true)
+    let w = subst (NextAt c.args.part.now c.loop-c.at) c.in-Some.is c.char_at.ensures in
+    skip_stop _ c.args.part.now _ c.loop-c.at c.loop-c.invariant c.in-Some.c c.in-Some.next w (ne_eqb _ 42 c.if-c-ne-STAR.true)
 
 pub loop-c-smaller : goal.loop-c-smaller
 loop-c-smaller c =
-    let w = subst (NextAt c.args.part.now c.loop-c.at) c.in-Char.is c.char_at-n.ensures in
-    omega (arith, w.place, w.inside, width_bounds c.in-Char.c)
+    let w = subst (NextAt c.args.part.now c.loop-c.at) c.in-Some.is c.char_at.ensures in
+    omega (arith, w.place, w.inside, width_bounds c.in-Some.c)
 
 pub loop-c-preserved : goal.loop-c-preserved
 unfolding is_star
 loop-c-preserved c =
-    let w = subst (NextAt c.args.part.now c.loop-c.at) c.in-Char.is c.char_at-n.ensures in
-    skip_more _ c.args.part.now _ c.loop-c.at c.loop-c.invariant c.in-Char.c c.in-Char.next w (eq-eqb _ 42 c.if-c-ne-STAR.false)
+    let w = subst (NextAt c.args.part.now c.loop-c.at) c.in-Some.is c.char_at.ensures in
+    skip_more _ c.args.part.now _ c.loop-c.at c.loop-c.invariant c.in-Some.c c.in-Some.next w (eq-eqb _ 42 c.if-c-ne-STAR.false)

@@ -9,4 +9,4 @@ returns-in_default c = record { value = rw (sym c.encode_char.ensures.value ∙ 
 
 pub returns : goal.returns
 unfolding written
-returns c = record { value = rw (sym c.encode_char.ensures.value ∙ c.in-Written.is); buffer_after = c.encode_char.ensures.buf_after }
+returns c = record { value = rw (sym c.encode_char.ensures.value ∙ c.in-Some.is); buffer_after = c.encode_char.ensures.buf_after }

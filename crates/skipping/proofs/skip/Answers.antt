@@ -32,16 +32,16 @@ shape_of-errors-then-not-c c =
 pub returns-then-not-c : goal.returns-then-not-c
 returns-then-not-c c =
     let g = gap_join c.args.text.now c.args.p c.loop-c.at c.skip_white-at.result c.loop-c.invariant.0 (white_is_gap c.args.text.now c.loop-c.at c.skip_white-at.result c.skip_white-at.ensures) in
-    let x = subst (CommentAt c.args.text.now c.skip_white-at.result) c.in-Past.is c.comment_at.ensures in
-    skipped_open c.args.text.now c.args.p c.skip_white-at.result c.in-Past.c _ _ _ c.args.used _ g x (not-true _ c.if-not-c.true) c.loop-c.invariant.1 c.put_unclosed-place.ensures
+    let x = subst (CommentAt c.args.text.now c.skip_white-at.result) c.in-Some.is c.comment_at.ensures in
+    skipped_open c.args.text.now c.args.p c.skip_white-at.result c.in-Some.c _ _ _ c.args.used _ g x (not-true _ c.if-not-c.true) c.loop-c.invariant.1 c.put_unclosed-place.ensures
 
 pub loop-c-smaller : goal.loop-c-smaller
 loop-c-smaller c =
-    let x = subst (CommentAt c.args.text.now c.skip_white-at.result) c.in-Past.is c.comment_at.ensures in
+    let x = subst (CommentAt c.args.text.now c.skip_white-at.result) c.in-Some.is c.comment_at.ensures in
     omega (arith, c.skip_white-at.ensures.forth, x.forth, x.reach.within.inside)
 
 pub loop-c-preserved : goal.loop-c-preserved
 loop-c-preserved c =
     let g = gap_join c.args.text.now c.args.p c.loop-c.at c.skip_white-at.result c.loop-c.invariant.0 (white_is_gap c.args.text.now c.loop-c.at c.skip_white-at.result c.skip_white-at.ensures) in
-    let x = subst (CommentAt c.args.text.now c.skip_white-at.result) c.in-Past.is c.comment_at.ensures in
-    (gap_join c.args.text.now c.args.p c.skip_white-at.result _ g (comment_gap c.args.text.now c.skip_white-at.result c.in-Past.c x (not-false _ c.if-not-c.false)), c.loop-c.invariant.1)
+    let x = subst (CommentAt c.args.text.now c.skip_white-at.result) c.in-Some.is c.comment_at.ensures in
+    (gap_join c.args.text.now c.args.p c.skip_white-at.result _ g (comment_gap c.args.text.now c.skip_white-at.result c.in-Some.c x (not-false _ c.if-not-c.false)), c.loop-c.invariant.1)
