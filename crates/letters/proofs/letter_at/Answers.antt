@@ -24,7 +24,7 @@ returns-in_err-e c =
     let w = subst (NextAt c.args.text.now c.args.p) c.in_ok-c.ensures.ok_part c.look.ensures in
     subst (LetterAt c.args.text.now c.args.p) (sym e)
     (ends_behind c.args.text.now c.args.p c.in_ok-c.q c.in_ok-c.c w.0 c.if-c-eq-BACKSLASH.true
-        (subst (NextAt c.args.text.now c.in_ok-c.q) c.in_err-e.ensures.ok_part c.look-then-c-eq-BACKSLASH.ensures))
+    (subst (NextAt c.args.text.now c.in_ok-c.q) c.in_err-e.ensures.ok_part c.look-then-c-eq-BACKSLASH.ensures))
 
 pub escape-requires : goal.escape-requires
 escape-requires c =
