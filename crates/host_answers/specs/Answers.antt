@@ -1,6 +1,6 @@
 -- What the calls of the host answer, as numbers. The result is 0 for a yes, else the number of the refusal.
 use Rattle.std.specs.Prelude.{ℕ, Bool, List, ◌∷◌, get_or, set, if◌then◌else◌}
-use Rattle.records.specs.Answers.{Answer, got, refused}
+use Rattle.refusals.specs.Answers.{Answer, got, refused}
 
 unfoldable pub number_of : {A : Type 0} → Answer A → ℕ
 number_of (got a) = 0

@@ -1,41 +1,29 @@
 // The host's calls on scripts: measuring and tokenising.
 #![tactic(auto)]
 
-ghost use Rattle.std.specs.Prelude.{◌≡◌};
-ghost use Rattle.lexer.specs.Tokenize.{of_answer, measure_answer};
+ghost use Rattle.std.specs.Prelude.{◌≡◌, drop};
+ghost use Rattle.lexer.specs.Tokenize.{measure_answer};
 ghost use Rattle.host_answers.specs.Answers.{number_of, slots_after};
 ghost use Rattle.host_calls.specs.Calls.{used_values, HostTokenized};
 
-use host_answers::{FIGURE, truth_of};
-use lexer::Answer;
+use host_answers::{put_answer, truth_of};
+use room::Used;
 
 // The slots of an answer.
 pub const USED_SLOTS: usize = 6;
 
-// An answer as a number and slots.
-fn put_answer(a: Answer, answer: &mut [u64; USED_SLOTS]) -> u64
-    ensures value { result ≡ number_of (of_answer a) }
-    ensures answer_after { answer.new ≡ slots_after used_values (of_answer a) answer.old }
+// What was used, behind the figure's slot.
+fn used_slots(u: Used) -> [u64; USED_SLOTS]
+    ensures { drop 1 result ≡ used_values u }
 {
-    match a {
-        Answer::Done(u) => {
-            let closed = truth_of(u.closed);
-            let kept = answer[FIGURE];
-            *answer = [
-                kept,
-                u.tokens as u64,
-                u.texts as u64,
-                u.errors as u64,
-                u.count as u64,
-                closed,
-            ];
-            0
-        }
-        Answer::Refused(number, figure) => {
-            answer[FIGURE] = figure;
-            number
-        }
-    }
+    [
+        0,
+        u.tokens as u64,
+        u.texts as u64,
+        u.errors as u64,
+        u.count as u64,
+        truth_of(u.closed),
+    ]
 }
 
 // What tokenising a script would answer. It writes no buffer.
@@ -43,8 +31,7 @@ pub fn measure(script: &[u8], answer: &mut [u64; USED_SLOTS]) -> u64
     ensures value { result ≡ number_of (measure_answer script.now) }
     ensures answer_after { answer.new ≡ slots_after used_values (measure_answer script.now) answer.old }
 {
-    let a = lexer::measure(script);
-    put_answer(a, answer)
+    put_answer(lexer::measure(script).map(used_slots), answer)
 }
 
 // Tokenises a script into three lent buffers.
@@ -57,6 +44,6 @@ pub fn tokenize(
 ) -> u64
     ensures { HostTokenized script.now tokens.old texts.old errors.old answer.old result tokens.new texts.new errors.new answer.new }
 {
-    let a = lexer::tokenize(script, tokens, texts, errors);
-    put_answer(a, answer)
+    let used = lexer::tokenize(script, tokens, texts, errors);
+    put_answer(used.map(used_slots), answer)
 }

@@ -20,8 +20,9 @@ pub fn first_bad(text: &[u8], figure: &mut u64) -> u64
     let Some(at) = utf8_check::first_bad(text) else {
         return 0;
     };
-    *figure = at as u64;
-    utf8_classes::bad_class(text, at)
+    let refusal = utf8_classes::bad_class(text, at);
+    *figure = refusal.figure();
+    refusal.number()
 }
 
 // The bytes of the byte-order mark that the text begins with: 3 or 0.

@@ -1,15 +1,16 @@
 // The host's calls that read tokens by their kinds: consume and match. A kind is as wide as the host's numbers.
 #![tactic(auto)]
 
-ghost use Rattle.std.specs.Prelude.{◌≡◌};
+ghost use Rattle.std.specs.Prelude.{◌≡◌, true, false, drop, MatchResult};
 ghost use Rattle.records.specs.Kinds.{is_kind};
+ghost use Rattle.records.specs.Answers.{of_turn, of_consumed};
 ghost use Rattle.record_reading.specs.Reading.{consume_at, match_at};
 ghost use Rattle.host_answers.specs.Answers.{number_of, slots_after};
 ghost use Rattle.host_matching.specs.Matching.{consumed_values, matched_values};
 
-use host_answers::{FIGURE, truth_of};
-use records::answers::{Consumed, Matched};
-use records::refusals::REFUSED_KIND;
+use host_answers::{put_answer, truth_of};
+use records::answers::TokenRecord;
+use refusals::Refusal;
 use rules::kinds;
 
 // The slots of an answer: for consume, for match.
@@ -20,11 +21,46 @@ pub const MATCHED_SLOTS: usize = 3;
 // The last kind of token.
 const LAST_KIND: u64 = kinds::ERROR as u64;
 
-// Question 6: whether there is such a kind of token.
-fn is_kind(kind: u64) -> bool
-    ensures { result ≡ is_kind kind }
+// Question 6: the kind as a byte, where there is such a kind of token.
+fn ask_kind(kind: u64) -> Result<u8, Refusal>
+    ensures { MatchResult result (λ byte. (byte ≡ kind) × (is_kind kind ≡ true)) (λ x. (x ≡ Refusal.Kind kind) × (is_kind kind ≡ false)) }
 {
-    kind <= LAST_KIND
+    if kind <= LAST_KIND {
+        Ok(kind as u8)
+    } else {
+        Err(Refusal::Kind(kind))
+    }
+}
+
+// A token's record, whether it is of the kind asked for, and the place behind it, behind the figure's slot.
+fn consumed_slots(consumed: (TokenRecord, bool, usize)) -> [u64; CONSUMED_SLOTS]
+    ensures { drop 1 result ≡ consumed_values consumed.2 (consumed.0, consumed.1) }
+{
+    let (r, fits, at) = consumed;
+    let s = r.span;
+    let found = r.kind as u64;
+    [
+        0,
+        at as u64,
+        found,
+        s.start as u64,
+        s.end as u64,
+        s.start_line as u64,
+        s.start_col as u64,
+        s.end_line as u64,
+        s.end_col as u64,
+        r.offset as u64,
+        r.length as u64,
+        truth_of(fits),
+    ]
+}
+
+// What consuming answers for a kind as wide as the host's numbers.
+fn consumed(tokens: &[u8], place: usize, kind: u64) -> Result<(TokenRecord, bool, usize), Refusal>
+    ensures { of_consumed place result ≡ consume_at tokens.now place kind }
+{
+    let byte = ask_kind(kind)?;
+    record_reading::read::consume(tokens, place, byte)
 }
 
 // The token record at a place, and whether it is of the kind asked for. It moves on either way.
@@ -32,38 +68,23 @@ pub fn consume(tokens: &[u8], place: usize, kind: u64, answer: &mut [u64; CONSUM
     ensures value { result ≡ number_of (consume_at tokens.now place kind).answer }
     ensures answer_after { answer.new ≡ slots_after (consumed_values (consume_at tokens.now place kind).place) (consume_at tokens.now place kind).answer answer.old }
 {
-    if !is_kind(kind) {
-        answer[FIGURE] = kind;
-        return REFUSED_KIND;
-    }
-    let n = record_reading::read::consume(tokens, place, kind as u8);
-    match n {
-        Consumed::Got(r, fits, at) => {
-            let s = r.span;
-            let same = truth_of(fits);
-            let kept = answer[FIGURE];
-            let found = r.kind as u64;
-            *answer = [
-                kept,
-                at as u64,
-                found,
-                s.start as u64,
-                s.end as u64,
-                s.start_line as u64,
-                s.start_col as u64,
-                s.end_line as u64,
-                s.end_col as u64,
-                r.offset as u64,
-                r.length as u64,
-                same,
-            ];
-            0
-        }
-        Consumed::Refused(not_consumed, _) => {
-            answer[FIGURE] = not_consumed.figure;
-            not_consumed.number
-        }
-    }
+    put_answer(consumed(tokens, place, kind).map(consumed_slots), answer)
+}
+
+// Whether a record is of the kind asked for, and the place where a reader then stands, behind the figure's slot.
+fn matched_slots(matched: (bool, usize)) -> [u64; MATCHED_SLOTS]
+    ensures { drop 1 result ≡ matched_values matched.1 matched.0 }
+{
+    let (fits, at) = matched;
+    [0, at as u64, truth_of(fits)]
+}
+
+// What matching answers for a kind as wide as the host's numbers.
+fn matched(tokens: &[u8], place: usize, kind: u64) -> Result<(bool, usize), Refusal>
+    ensures { of_turn place result ≡ match_at tokens.now place kind }
+{
+    let byte = ask_kind(kind)?;
+    record_reading::read::match_kind(tokens, place, byte)
 }
 
 // Whether the token record at a place is of the kind asked for. It moves on only then.
@@ -71,21 +92,5 @@ pub fn match_kind(tokens: &[u8], place: usize, kind: u64, answer: &mut [u64; MAT
     ensures value { result ≡ number_of (match_at tokens.now place kind).answer }
     ensures answer_after { answer.new ≡ slots_after (matched_values (match_at tokens.now place kind).place) (match_at tokens.now place kind).answer answer.old }
 {
-    if !is_kind(kind) {
-        answer[FIGURE] = kind;
-        return REFUSED_KIND;
-    }
-    let n = record_reading::read::match_kind(tokens, place, kind as u8);
-    match n {
-        Matched::Got(fits, at) => {
-            let same = truth_of(fits);
-            let kept = answer[FIGURE];
-            *answer = [kept, at as u64, same];
-            0
-        }
-        Matched::Refused(not_matched, _) => {
-            answer[FIGURE] = not_matched.figure;
-            not_matched.number
-        }
-    }
+    put_answer(matched(tokens, place, kind).map(matched_slots), answer)
 }

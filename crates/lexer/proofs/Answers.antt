@@ -13,27 +13,28 @@ use Rattle.byte_order_mark.specs.Mark.{mark_length, after_mark}
 use Rattle.characters.proofs.Choice.{and_both}
 use Rattle.byte_order_mark.proofs.Marks.{mark_length_after}
 use Rattle.rules.specs.Script.{LIMIT, script_tokens, script_errors}
-use Rattle.records.specs.Answers.{got, refused}
+use Rattle.std.specs.Prelude.{Ok, Err}
+use Rattle.refusals.specs.declared.Refusal.{Refusal}
+use Rattle.refusals.specs.Refusals.{refusal_number, refusal_figure}
+use Rattle.refusals.specs.Answers.{got, refused, ◌then◌}
 use Rattle.records.specs.Layout.{token_bytes, text_bytes, error_bytes}
 use Rattle.room.specs.declared.Used.{Used}
 use Rattle.room.specs.Needed.{needed}
 use Rattle.room.specs.Room.{most_tokens, most_texts, most_errors, roomy}
 use Rattle.room.proofs.Totals.{text_low, few_tokens, few_texts, few_errors}
 use Rattle.list_loop.specs.Run.{Ran}
-use Rattle.questions.specs.declared.Asked.TheVariants.{Yes, No}
 use Rattle.questions.specs.Questions.{ask_text, ask_room}
 use Rattle.questions.proofs.Questions.{yes_accepted, room_yes, yes_room}
-use Rattle.lexer.specs.declared.Answer.TheVariants.{Done, Refused}
-use Rattle.lexer.specs.Tokenize.{◌then◌, measure_answer, tokenize_answer, buffer_after, Tokenized}
+use Rattle.lexer.specs.Tokenize.{measure_answer, tokenize_answer, buffer_after, Tokenized}
 
 -- ── Measuring ──
 
 module _ (s : List ℕ) where
-  pub measure_no : (n f : ℕ) → ask_text s ≡ No n f → refused n f ≡ measure_answer s
+  pub measure_no : (n f : ℕ) → ask_text s ≡ refused n f → refused n f ≡ measure_answer s
   unfolding measure_answer ◌then◌
   measure_no n f e = rw e
 
-  pub measure_yes : (u : Used) → ask_text s ≡ Yes → u ≡ needed s → got u ≡ measure_answer s
+  pub measure_yes : (u : Used) → ask_text s ≡ got tt → u ≡ needed s → got u ≡ measure_answer s
   unfolding measure_answer ◌then◌
   measure_yes u e k = rw (e, k)
 
@@ -46,24 +47,25 @@ front old bytes h =
     sets-eq bytes old 0 g ∙ ap (λ (n : ℕ). bytes ++ drop n old) (zero-add (length bytes))
 
 module _ (s tokens texts errors : List ℕ) where
-  pub tokenize_no : (n f : ℕ) → ask_text s ≡ No n f → Tokenized s tokens texts errors (Refused n f) tokens texts errors
+  pub tokenize_no : (x : Refusal) → ask_text s ≡ refused (refusal_number x) (refusal_figure x) → Tokenized s tokens texts errors (Err x) tokens texts errors
   unfolding tokenize_answer ◌then◌ buffer_after
-  tokenize_no n f e = record { answer = rw e; tokens_after = refl; texts_after = refl; errors_after = refl }
+  tokenize_no x e = record { answer = rw e; tokens_after = refl; texts_after = refl; errors_after = refl }
 
-  pub tokenize_full : (u : Used) (n f : ℕ) → ask_text s ≡ Yes → u ≡ needed s → ask_room u (length tokens) (length texts) (length errors) ≡ No n f
-      → Tokenized s tokens texts errors (Refused n f) tokens texts errors
+  pub tokenize_full : (u : Used) (x : Refusal) → ask_text s ≡ got tt → u ≡ needed s
+      → ask_room u (length tokens) (length texts) (length errors) ≡ refused (refusal_number x) (refusal_figure x)
+      → Tokenized s tokens texts errors (Err x) tokens texts errors
   unfolding tokenize_answer ◌then◌ buffer_after
-  tokenize_full u n f e k x =
-      record { answer = rw (e, ← k, x); tokens_after = refl; texts_after = refl; errors_after = refl }
+  tokenize_full u x e k m =
+      record { answer = rw (e, ← k, m); tokens_after = refl; texts_after = refl; errors_after = refl }
 
-  done_answer : (r : Used) → ask_text s ≡ Yes → ask_room (needed s) (length tokens) (length texts) (length errors) ≡ Yes → r ≡ needed s
+  done_answer : (r : Used) → ask_text s ≡ got tt → ask_room (needed s) (length tokens) (length texts) (length errors) ≡ got tt → r ≡ needed s
       → got r ≡ tokenize_answer s (length tokens) (length texts) (length errors)
   unfolding tokenize_answer ◌then◌
   done_answer r e x k = rw (e, x, k)
 
-  pub tokenize_yes : (r : Used) (tokens' texts' errors' : List ℕ) → ask_text s ≡ Yes
-      → ask_room (needed s) (length tokens) (length texts) (length errors) ≡ Yes
-      → Ran s tokens texts errors r tokens' texts' errors' → Tokenized s tokens texts errors (Done r) tokens' texts' errors'
+  pub tokenize_yes : (r : Used) (tokens' texts' errors' : List ℕ) → ask_text s ≡ got tt
+      → ask_room (needed s) (length tokens) (length texts) (length errors) ≡ got tt
+      → Ran s tokens texts errors r tokens' texts' errors' → Tokenized s tokens texts errors (Ok r) tokens' texts' errors'
   unfolding buffer_after needed
   tokenize_yes r tokens' texts' errors' e x w =
       let m = yes_room (needed s) (length tokens) (length texts) (length errors) x in
@@ -75,14 +77,14 @@ module _ (s tokens texts errors : List ℕ) where
       }
 
   -- The same where what the script takes was counted before.
-  pub tokenize_counted : (u r : Used) (tokens' texts' errors' : List ℕ) → ask_text s ≡ Yes → u ≡ needed s
-      → ask_room u (length tokens) (length texts) (length errors) ≡ Yes
-      → Ran s tokens texts errors r tokens' texts' errors' → Tokenized s tokens texts errors (Done r) tokens' texts' errors'
+  pub tokenize_counted : (u r : Used) (tokens' texts' errors' : List ℕ) → ask_text s ≡ got tt → u ≡ needed s
+      → ask_room u (length tokens) (length texts) (length errors) ≡ got tt
+      → Ran s tokens texts errors r tokens' texts' errors' → Tokenized s tokens texts errors (Ok r) tokens' texts' errors'
   tokenize_counted u r tokens' texts' errors' e k x w = tokenize_yes r tokens' texts' errors' e (rw (← k) x) w
 
 -- Buffers that hold what any text takes hold what this script takes.
-pub roomy_yes : (s : List ℕ) (n tokens texts errors : ℕ) → ask_text s ≡ Yes → n ≡ length (after_mark s) → roomy n tokens texts errors ≡ true
-    → ask_room (needed s) tokens texts errors ≡ Yes
+pub roomy_yes : (s : List ℕ) (n tokens texts errors : ℕ) → ask_text s ≡ got tt → n ≡ length (after_mark s) → roomy n tokens texts errors ≡ true
+    → ask_room (needed s) tokens texts errors ≡ got tt
 unfolding roomy
 roomy_yes s n tokens texts errors e k h =
     let ok = yes_accepted s e in
@@ -104,5 +106,5 @@ module _ (s : List ℕ) (m : ℕ) (e : m ≡ mark_length s) where
   pub after_size : length s - m ≡ length (after_mark s)
   after_size = omega (arith, mark_length_after s)
 
-  pub after_low : ask_text s ≡ Yes → length s - m ≤ LIMIT
+  pub after_low : ask_text s ≡ got tt → length s - m ≤ LIMIT
   after_low y = omega (arith, after_size, text_low s (yes_accepted s y))

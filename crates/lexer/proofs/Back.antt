@@ -1,5 +1,5 @@
 -- From the contract of tokenising alone: what its answer says, and what readers of its buffers meet. Assumes nothing.
-use mathlib.Core.Path.{◌≡◌, refl, sym, ◌∙◌, ap}
+use mathlib.Core.Path.{◌≡◌, sym, ◌∙◌, ap}
 use mathlib.Core.Bool.{true}
 use mathlib.Core.List.{List, [], ◌∷◌}
 use Prim.Native.Nat.{ℕ, ◌≤◌, ◌<◌, zero-le}
@@ -11,7 +11,10 @@ use Rattle.rules.specs.Script.{LIMIT, accepted, script_tokens, script_errors}
 use Rattle.rules.specs.Bounds.{Small}
 use Rattle.rules.specs.Shift.{ClosedExactly}
 use Rattle.rules.proofs.Demand as demand
-use Rattle.records.specs.Answers.{Answer, got, refused}
+use Rattle.std.specs.Prelude.{Result, Ok}
+use Rattle.refusals.specs.declared.Refusal.{Refusal}
+use Rattle.refusals.proofs.Answers.{same_got, same_answer, yes_then}
+use Rattle.refusals.specs.Answers.{Answer, got, refused, of_answer, ◌then◌}
 use Rattle.records.specs.Layout.{text_bytes, error_bytes}
 use Rattle.record_lists.specs.Lists.{tokens_from, errors_from}
 use Rattle.records.proofs.Filling.{errors_size, length_errors}
@@ -21,40 +24,20 @@ use Rattle.room.specs.declared.Used.{Used}
 use Rattle.room.specs.Needed.{needed}
 use Rattle.room.specs.Room.{most_texts}
 use Rattle.room.proofs.Totals.{text_low, few_texts}
-use Rattle.questions.specs.declared.Asked.{Asked}
-use Rattle.questions.specs.declared.Asked.TheVariants.{Yes, No}
 use Rattle.questions.specs.Questions.{ask_text, ask_room}
 use Rattle.questions.proofs.Questions.{yes_accepted}
-use Rattle.lexer.specs.declared.Answer as code
-use Rattle.lexer.specs.declared.Answer.TheVariants.{Done, Refused}
-use Rattle.lexer.specs.Tokenize.{of_answer, ◌then◌, measure_answer, tokenize_answer, buffer_after, Tokenized}
+use Rattle.lexer.specs.Tokenize.{measure_answer, tokenize_answer, buffer_after, Tokenized}
 use Rattle.lexer.specs.Places.{places_from, Fills}
 use Rattle.lexer.proofs.Fits.{tokens_fit, tokens_ended, errors_fit}
 use Rattle.lexer.proofs.Places.{places_filled}
 
 -- ── What a yes says ──
 
-pub got_is_not_refused : (u : Used) (n f : ℕ) → ◌≡◌ {A = Answer Used} (got u) (refused n f) → ⊥
-got_is_not_refused u n f e = let z : ◌≡◌ {A = ℕ} 0 1 = cc in omega arith
+yes_measured : (a : Answer (Unit {0})) (u v : Used) → got u ≡ (a then got v) → (a ≡ got tt) × (u ≡ v)
+yes_measured a u v e = let q = yes_then a (got v) u e in (q.0, same_got u v q.1)
 
-same_got : (u v : Used) → ◌≡◌ {A = Answer Used} (got u) (got v) → u ≡ v
-same_got u v e = cc
-
-pub same_answer : (r q : code.Answer) → of_answer r ≡ of_answer q → r ≡ q
-same_answer (Done u) (Done v) e = ap Done (same_got u v e)
-same_answer (Done u) (Refused n f) e = absurd (got_is_not_refused u n f e)
-same_answer (Refused n f) (Done u) e = absurd (got_is_not_refused u n f (sym e))
-same_answer (Refused n f) (Refused m g) e = cc
-
-yes_measured : (a : Asked) (u v : Used) → got u ≡ (a then got v) → (a ≡ Yes) × (u ≡ v)
-unfolding ◌then◌
-yes_measured Yes u v e = (refl, same_got u v e)
-yes_measured (No n f) u v e = absurd (got_is_not_refused u n f e)
-
-yes_tokenized : (a b : Asked) (u v : Used) → got u ≡ (a then b then got v) → (a ≡ Yes) × (b ≡ Yes) × (u ≡ v)
-unfolding ◌then◌
-yes_tokenized Yes b u v e = let q = yes_measured b u v e in (refl, q.0, q.1)
-yes_tokenized (No n f) b u v e = absurd (got_is_not_refused u n f e)
+yes_tokenized : (a b : Answer (Unit {0})) (u v : Used) → got u ≡ (a then b then got v) → (a ≡ got tt) × (b ≡ got tt) × (u ≡ v)
+yes_tokenized a b u v e = let p = yes_then a (b then got v) u e in let q = yes_measured b u v p.1 in (p.0, q.0, q.1)
 
 module _ (s : List ℕ) (u : Used) where
   -- Measuring: the script is accepted, and `u` is what it takes.
@@ -101,7 +84,7 @@ errors_few (e ∷ es) = omega (arith, errors_few es, error_bounds e.kind)
 -- ── Tokenising that was answered with yes ──
 
 module _ (s tokens texts errors : List ℕ) (u : Used) (tokens' texts' errors' : List ℕ)
-    (w : Tokenized s tokens texts errors (Done u) tokens' texts' errors') where
+    (w : Tokenized s tokens texts errors (Ok u) tokens' texts' errors') where
   says : (accepted s ≡ true) × (u ≡ needed s)
   says = tokenize_says s u (length tokens) (length texts) (length errors) w.answer
 
@@ -138,8 +121,8 @@ module _ (s tokens texts errors : List ℕ) (u : Used) (tokens' texts' errors' :
       (places_filled s (script_tokens s) _ n (tokens_fit s says.0) (tokens_ended s says.0) (texts_small s says.0) (count_said n h))
 
   -- Measuring the same script answers the same.
-  pub measured : (r : code.Answer) → of_answer r ≡ measure_answer s → r ≡ Done u
-  measured r e = same_answer r (Done u) (e ∙ sym (measure_same s u (length tokens) (length texts) (length errors) w.answer))
+  pub measured : (r : Result Used Refusal) → of_answer r ≡ measure_answer s → r ≡ Ok u
+  measured r e = same_answer r (Ok u) (e ∙ sym (measure_same s u (length tokens) (length texts) (length errors) w.answer))
 
   -- Demand 3: tokenising calls a script closed exactly when it joins with every second script that fits.
   pub closed_exactly : length s < LIMIT → ClosedExactly s u.closed

@@ -22,16 +22,15 @@ use Rattle.rules.proofs.Join.{drop_eof}
 use Rattle.rules.proofs.Fits.{script_body, body_and_eof}
 use Rattle.rules.proofs.Demand as demand
 use Rattle.records.specs.Fields.{HEAD}
-use Rattle.records.specs.Answers.{got}
+use Rattle.refusals.specs.Answers.{got, ◌then◌}
 use Rattle.records.specs.Kinds.{has_text, is_made, record_length}
 use Rattle.records.specs.Layout.{made_text, text_bytes, token_bytes, error_bytes}
 use Rattle.records.proofs.Filling.{texts_append, tokens_size, errors_size, length_tokens, length_errors}
 use Rattle.room.specs.declared.Used.{Used}
 use Rattle.room.specs.Needed.{needed}
-use Rattle.questions.specs.declared.Asked.TheVariants.{Yes}
 use Rattle.questions.specs.Questions.{ask_text, ask_room}
 use Rattle.questions.proofs.Questions.{text_valid, room_yes}
-use Rattle.lexer.specs.Tokenize.{◌then◌, tokenize_answer, buffer_after}
+use Rattle.lexer.specs.Tokenize.{tokenize_answer, buffer_after}
 use Rattle.lexer.specs.Joining.{Call, Answered, tokens_met, errors_met, last_start_line, Following, CallsJoin, CallsExactly}
 use Rattle.lexer.proofs.Back as back
 
@@ -278,14 +277,14 @@ module _ (first second whole : Call) (f : Following first second whole) (closed 
 
 -- ── An accepted script has a call that is answered with yes ──
 
-accepted_yes : (s : List ℕ) → accepted s ≡ true → ask_text s ≡ Yes
+accepted_yes : (s : List ℕ) → accepted s ≡ true → ask_text s ≡ got tt
 unfolding accepted is_utf8 is_valid
 accepted_yes s h = go (first_bad s) refl p.1
   where
     p : (leb (length s) LIMIT ≡ true) × (is_utf8 s ≡ true)
     p = and_both (leb (length s) LIMIT) (is_utf8 s) h
 
-    go : (x : Option ℕ) → first_bad s ≡ x → is_valid x ≡ true → ask_text s ≡ Yes
+    go : (x : Option ℕ) → first_bad s ≡ x → is_valid x ≡ true → ask_text s ≡ got tt
     go None e q = sym (text_valid s (leb-true (length s) LIMIT p.0) e)
     go (Some at) e q = absurd (false≢true q)
 
@@ -305,7 +304,7 @@ call_of s =
 
 room_there : (s : List ℕ)
     → ask_room (needed s) (length (token_bytes (script_tokens s))) (length (text_bytes (script_tokens s))) (length (error_bytes (script_errors s)))
-    ≡ Yes
+    ≡ got tt
 unfolding needed
 room_there s = sym (room_yes (needed s) _ _ _ (omega arith) (omega arith) (omega arith))
 

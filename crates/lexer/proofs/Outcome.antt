@@ -4,17 +4,19 @@ use mathlib.Core.List.{List, ◌++◌}
 use Prim.Native.Nat.{ℕ}
 use lib.ListN.{length, take, drop}
 use lib.Seq.{take-append_seam}
+use Rattle.std.specs.Prelude.{Result}
+use Rattle.refusals.specs.declared.Refusal.{Refusal}
+use Rattle.refusals.proofs.Answers.{same_answer}
 use Rattle.rules.specs.Script.{script_tokens, script_errors}
 use Rattle.records.specs.Layout.{token_bytes, text_bytes, error_bytes}
 use Rattle.room.specs.declared.Used.{Used}
 use Rattle.room.specs.Needed.{needed}
-use Rattle.lexer.specs.declared.Answer as code
 use Rattle.lexer.specs.Tokenize.{buffer_after, Tokenized}
 use Rattle.lexer.specs.Joining.{Call, Answered}
-use Rattle.lexer.proofs.Back.{same_answer, tokenize_says}
+use Rattle.lexer.proofs.Back.{tokenize_says}
 
 -- The same script and the same buffers lent again: the same answer, and the same bytes in all three buffers.
-pub single_outcome : (s tokens texts errors : List ℕ) (r q : code.Answer) (tokens' texts' errors' tokens'' texts'' errors'' : List ℕ)
+pub single_outcome : (s tokens texts errors : List ℕ) (r q : Result Used Refusal) (tokens' texts' errors' tokens'' texts'' errors'' : List ℕ)
     → Tokenized s tokens texts errors r tokens' texts' errors' → Tokenized s tokens texts errors q tokens'' texts'' errors''
     → (r ≡ q) × (tokens' ≡ tokens'') × (texts' ≡ texts'') × (errors' ≡ errors'')
 single_outcome s tokens texts errors r q tokens' texts' errors' tokens'' texts'' errors'' w v =

@@ -13,7 +13,7 @@ use Rattle.rules.specs.Tokens.{Token}
 use Rattle.rules.specs.Tables.{EOF}
 use Rattle.rules.specs.Bounds.{Every, Small}
 use Rattle.records.specs.Kinds.{has_text, is_made}
-use Rattle.records.specs.Answers.{got}
+use Rattle.refusals.specs.Answers.{got}
 use Rattle.record_reading.specs.Reading.{next_at}
 use Rattle.records.specs.Layout.{made_text, text_bytes, text_offset, record_of, token_bytes_from, token_bytes}
 use Rattle.record_lists.specs.Lists.{TokenFits, Ended}

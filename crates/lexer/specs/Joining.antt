@@ -1,6 +1,6 @@
 -- Demand 3 over three calls of tokenising: of a first script, of a second one, and of both with a line feed between them. Nothing is
 -- named here but what the calls were given and what they gave.
-use Rattle.std.specs.Prelude.{◌≡◌, ◌↔◌, true, false, ℕ, ◌+◌, length, take}
+use Rattle.std.specs.Prelude.{◌≡◌, ◌↔◌, Ok, true, false, ℕ, ◌+◌, length, take}
 use mathlib.Core.List.{List, [], ◌∷◌, ◌++◌, map, drop_last}
 use Rattle.byte_order_mark.specs.Mark.{has_mark, after_mark}
 use Rattle.rules.specs.Tokens.{Token, TokenizeError}
@@ -8,7 +8,6 @@ use Rattle.rules.specs.Shift.{shift_token, shift_error, joined}
 use Rattle.records.specs.Fields.{HEAD}
 use Rattle.record_lists.specs.Lists.{tokens_from, errors_from}
 use Rattle.room.specs.declared.Used.{Used}
-use Rattle.lexer.specs.declared.Answer.TheVariants.{Done}
 use Rattle.lexer.specs.Tokenize.{Tokenized}
 
 -- ── One call ──
@@ -27,7 +26,7 @@ pub record Call : Type 0 where
 -- The contract of tokenising holds of it.
 abbrev pub Answered : Call → Type 0
 Answered k =
-    Tokenized k.script k.tokens_before k.texts_before k.errors_before (Done k.used) k.tokens_after k.texts_after
+    Tokenized k.script k.tokens_before k.texts_before k.errors_before (Ok k.used) k.tokens_after k.texts_after
     k.errors_after
 
 -- The tokens that a reader meets in its buffers.

@@ -4,7 +4,7 @@ use Rattle.std.specs.Prelude.{◌≡◌, List, [], ◌∷◌, ◌++◌, ℕ, zer
 use Rattle.characters.specs.Choice.{◌is◌}
 use Rattle.rules.specs.Tables.{EOF}
 use Rattle.records.specs.Kinds.{is_made}
-use Rattle.records.specs.Answers.{Answer, got, refused}
+use Rattle.refusals.specs.Answers.{Answer, got, refused}
 use Rattle.record_reading.specs.Reading.{next_at}
 use Rattle.records.specs.declared.answers.TokenRecord.{TokenRecord}
 

@@ -1,29 +1,15 @@
 -- What measuring and tokenising answer, and what tokenising leaves in the three buffers (document 01, "Records" and "Questions
 -- before the answer").
-use Rattle.std.specs.Prelude.{◌≡◌, List, ◌++◌, ℕ, length, drop}
+use Rattle.std.specs.Prelude.{◌≡◌, Result, List, ◌++◌, ℕ, length, drop}
 use Rattle.rules.specs.Script.{script_tokens, script_errors}
-use Rattle.records.specs.Answers.{Answer, got, refused}
+use Rattle.refusals.specs.declared.Refusal.{Refusal}
+use Rattle.refusals.specs.Answers.{Answer, got, refused, of_answer, ◌then◌}
 use Rattle.records.specs.Layout.{token_bytes, text_bytes, error_bytes}
 use Rattle.room.specs.declared.Used.{Used}
 use Rattle.room.specs.Needed.{needed}
-use Rattle.questions.specs.declared.Asked.{Asked}
-use Rattle.questions.specs.declared.Asked.TheVariants.{Yes, No}
 use Rattle.questions.specs.Questions.{ask_text, ask_room}
-use Rattle.lexer.specs.declared.Answer as code
-use Rattle.lexer.specs.declared.Answer.TheVariants.{Done, Refused}
-
--- The answer that each case of the code's enum is: a yes with its values, or the number of a question and its figure.
-abbrev pub of_answer : code.Answer → Answer Used
-of_answer (Done u) = got u
-of_answer (Refused number figure) = refused number figure
 
 -- ── The answers ──
-
--- After a yes the later answer, and after a no its number and figure.
-infixr 20 ◌then◌
-unfoldable pub ◌then◌ : Asked → Answer Used → Answer Used
-Yes then later = later
-No number figure then later = refused number figure
 
 -- "Measuring runs through 1 and 2."
 unfoldable pub measure_answer : List ℕ → Answer Used
@@ -41,7 +27,7 @@ buffer_after (got u) old bytes = bytes ++ drop (length bytes) old
 buffer_after (refused number figure) old bytes = old
 
 -- Tokenising the script `s` answered `r`, with the three buffers before and after it.
-pub record Tokenized (s tokens texts errors : List ℕ) (r : code.Answer) (tokens' texts' errors' : List ℕ) : Type 0 where
+pub record Tokenized (s tokens texts errors : List ℕ) (r : Result Used Refusal) (tokens' texts' errors' : List ℕ) : Type 0 where
   pub answer : of_answer r ≡ tokenize_answer s (length tokens) (length texts) (length errors)
   pub tokens_after : tokens' ≡ buffer_after (of_answer r) tokens (token_bytes (script_tokens s))
   pub texts_after : texts' ≡ buffer_after (of_answer r) texts (text_bytes (script_tokens s))

@@ -17,7 +17,8 @@ use Rattle.byte_order_mark.specs.Mark.{has_mark, mark_length, after_mark}
 use Rattle.rules.specs.Script.{script_text, script_tokens, script_errors, script_closed}
 use Rattle.room.specs.Needed.{needed}
 use Rattle.questions.specs.Questions.{ask_utf8, ask_text}
-use Rattle.lexer.specs.Tokenize.{◌then◌, measure_answer}
+use Rattle.refusals.specs.Answers.{◌then◌}
+use Rattle.lexer.specs.Tokenize.{measure_answer}
 use Rattle.listing_fields.specs.Numbers.{decimal_in, decimal, hex_digit, hex_of}
 use Rattle.listing_fields.specs.Fields.{field, span_fields, text_field}
 use Rattle.listing_lines.specs.Lines.{head_of, token_line, token_lines, error_lines, closed_line, refused_line}

@@ -9,26 +9,27 @@ use native.Mathlib.Omega.{arith}
 use borrow.Author.Tests.{leb-true, le-leb, lt-leb}
 use lib.Dec.{leb}
 use lib.ListN.{length, take, drop, length-append}
-use Rattle.std.specs.Prelude.{Option, Some, None}
-use Rattle.characters.specs.Utf8.{first_bad, bad_class}
+use Rattle.characters.specs.Utf8.{first_bad}
 use Rattle.characters.proofs.Choice.{if_all}
 use Rattle.byte_order_mark.proofs.Marks.{mark_length_after}
 use Rattle.rules.specs.Tokens.{Token, TokenizeError}
 use Rattle.rules.specs.Script.{accepted, script_tokens, script_errors, script_closed}
 use Rattle.rules.proofs.Fits.{text_lengths, token_count, error_count, text_count}
 use Rattle.spellings.specs.Spelling.{ascii}
-use Rattle.records.specs.Answers.{Answer, got, refused}
+use Rattle.std.specs.Prelude.{Option, Some, None, Result, Ok, Err}
+use Rattle.refusals.specs.declared.Refusal.{Refusal}
+use Rattle.refusals.specs.Refusals.{refusal_number, refusal_figure}
+use Rattle.refusals.specs.Answers.{Answer, got, refused, ◌then◌}
+use Rattle.refusals.proofs.Answers.{got_is_not_refused}
 use Rattle.records.specs.Layout.{error_bytes}
 use Rattle.output.specs.Writing.{Put}
 use Rattle.output.proofs.Buffers.{front_part}
 use Rattle.room.specs.declared.Used.{Used}
-use Rattle.lexer.specs.declared.Answer as code
-use Rattle.lexer.specs.declared.Answer.TheVariants.{Done, Refused}
 use Rattle.room.specs.Needed.{needed}
-use Rattle.lexer.specs.Tokenize.{◌then◌, measure_answer, tokenize_answer, buffer_after, Tokenized}
+use Rattle.lexer.specs.Tokenize.{measure_answer, tokenize_answer, buffer_after, Tokenized}
 use Rattle.room.specs.Room.{most_tokens, most_texts, most_errors}
 use Rattle.room.proofs.Totals.{few_tokens, few_texts, few_errors}
-use Rattle.questions.proofs.Questions.{text_valid, text_bad, yes_accepted, room_yes}
+use Rattle.questions.proofs.Questions.{text_valid, bad_answer, yes_accepted, room_yes}
 use Rattle.lexer.proofs.Back.{measure_says, measure_same, answers, tokens_read_lem, errors_read_lem}
 use Rattle.listing_fields.specs.Room.{Room}
 use Rattle.listing_lines.specs.Lines.{ending, token_line, token_lines, error_line, error_lines, closed_line, refused_line}
@@ -80,11 +81,8 @@ module _ (s : List ℕ) where
 
 -- ── After tokenising ──
 
-refused_is_not_got : (u : Used) (n f : ℕ) → ◌≡◌ {A = Answer Used} (refused n f) (got u) → ⊥
-refused_is_not_got u n f e = let z : ◌≡◌ {A = ℕ} 0 1 = cc in omega arith
-
 module _ (s tokens texts errors tokens' texts' errors' : List ℕ) (h : length s ≤ LISTED) where
-  module _ (u : Used) (w : Tokenized s tokens texts errors (Done u) tokens' texts' errors') where
+  module _ (u : Used) (w : Tokenized s tokens texts errors (Ok u) tokens' texts' errors') where
     read_listing : lines_read s texts' tokens' errors' u ≡ listing s
     unfolding lines_read tokens_read errors_read answer_lines needed
     read_listing =
@@ -116,14 +114,17 @@ module _ (s tokens texts errors tokens' texts' errors' : List ℕ) (h : length s
         let m = mark_length_after s in
         let z = room_yes (needed s) (length tokens) (length texts) (length errors)
         (omega (arith, few_tokens s ok)) (omega (arith, few_texts s ok)) (omega (arith, few_errors s ok)) in
-        absurd (refused_is_not_got (needed s) n f (rw (← y, ← z) at k))
+        absurd (got_is_not_refused (needed s) n f (sym (rw (← y, ← z) at k)))
     asked (Some p) n f e k =
-        let y = text_bad s (bad_class (drop p s)) p (omega arith) e refl in
+        let y = bad_answer s p (omega arith) e in
         rw (← y) (rw (← y) at k)
 
-    refused_listing : (n f : ℕ) → Tokenized s tokens texts errors (Refused n f) tokens' texts' errors' → refused_line n f ≡ listing s
+    refused_listing : (x : Refusal) → Tokenized s tokens texts errors (Err x) tokens' texts' errors' → refused_line (refusal_number x) (refusal_figure x) ≡ listing s
     unfolding answer_lines
-    refused_listing n f w = short_listing s h (refused n f) (asked (first_bad s) n f refl w.answer)
+    refused_listing x w =
+        let n = refusal_number x in
+        let f = refusal_figure x in
+        short_listing s h (refused n f) (asked (first_bad s) n f refl w.answer)
 
 -- ── The answers of `list` ──
 
@@ -136,10 +137,10 @@ listed a c s bytes r e p = (rw (← e) p, omega (arith, p.place, ap length e, li
 pub long_listed : (a c s : List ℕ) (r : ℕ) → LISTED < length s → Put a c 0 (ascii "long" ++ ending) r → Listed a c s r
 long_listed a c s r h p = listed a c s (ascii "long" ++ ending) r (long_listing s h) p
 
-module _ (s tokens texts errors : List ℕ) (x : code.Answer) (tokens' texts' errors' : List ℕ)
+module _ (s tokens texts errors : List ℕ) (x : Result Used Refusal) (tokens' texts' errors' : List ℕ)
     (w : Tokenized s tokens texts errors x tokens' texts' errors') (h : length s ≤ LISTED) where
-  module _ (u : Used) (e : x ≡ Done u) where
-    done : Tokenized s tokens texts errors (Done u) tokens' texts' errors'
+  module _ (u : Used) (e : x ≡ Ok u) where
+    done : Tokenized s tokens texts errors (Ok u) tokens' texts' errors'
     done = rw e at w
 
     pub read_room : (u.errors ≤ length errors') × Room 0 (lines_read s texts' tokens' errors' u)
@@ -150,12 +151,12 @@ module _ (s tokens texts errors : List ℕ) (x : code.Answer) (tokens' texts' er
     read_listed a c r p =
         listed a c s (lines_read s texts' tokens' errors' u) r (read_listing s tokens texts errors tokens' texts' errors' h u done) p
 
-  pub refused_listed : (n f : ℕ) → x ≡ Refused n f → TOKENS ≡ length tokens → TEXTS ≡ length texts → ERRORS ≡ length errors
+  pub refused_listed : (y : Refusal) (n f : ℕ) → x ≡ Err y → n ≡ refusal_number y → f ≡ refusal_figure y → TOKENS ≡ length tokens → TEXTS ≡ length texts → ERRORS ≡ length errors
       → (a c : List ℕ) (r : ℕ) → Put a c 0 (refused_line n f) r → Listed a c s r
-  refused_listed n f e k l m a c r p =
-      let v : Tokenized s tokens texts errors (Refused n f) tokens' texts' errors' = rw e at w in
+  refused_listed y n f e i j k l m a c r p =
+      let v : Tokenized s tokens texts errors (Err y) tokens' texts' errors' = rw e at w in
       listed a c s (refused_line n f) r
-      (refused_listing s tokens texts errors tokens' texts' errors' h (omega arith) (omega arith) (omega arith) n f v) p
+      (rw (i, j) (refused_listing s tokens texts errors tokens' texts' errors' h (omega arith) (omega arith) (omega arith) y v)) p
 
 -- ── The bytes that a caller finds at the front ──
 

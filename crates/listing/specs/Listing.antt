@@ -3,7 +3,7 @@
 use Rattle.std.specs.Prelude.{ℕ, ◌+◌, ◌*◌, List, ◌++◌, leb, length, if◌then◌else◌}
 use Rattle.rules.specs.Script.{script_tokens, script_errors, script_closed}
 use Rattle.spellings.specs.Spelling.{ascii}
-use Rattle.records.specs.Answers.{Answer, got, refused}
+use Rattle.refusals.specs.Answers.{Answer, got, refused}
 use Rattle.room.specs.declared.Used.{Used}
 use Rattle.lexer.specs.Tokenize.{measure_answer}
 use Rattle.listing_lines.specs.Lines.{ending, token_lines, error_lines, closed_line, refused_line}

@@ -4,9 +4,7 @@
 ghost use Rattle.std.specs.Prelude.{◌≡◌, ◌≤◌, length};
 ghost use Rattle.output.specs.Writing.{Put};
 ghost use Rattle.listing.specs.Listing.{listing, LONGEST};
-ghost use Rattle.listing.specs.Buffers.{TOKENS, TEXTS, ERRORS};
 
-use lexer::Answer;
 use listing_lines::put_refused;
 use listing_reading::put_answer;
 use output::put_bytes;
@@ -26,23 +24,11 @@ const TEXTS: usize = 2 * LISTED + 2;
 
 const ERRORS: usize = LONGEST_ERROR * LISTED;
 
-// The contracts of the buffers give only the length.
-fn token_buffer() -> [u8; TOKENS]
-    ensures { TOKENS ≡ length result }
+// A buffer of zeros. The contract gives only the length.
+pub fn zeros<const N: usize>() -> [u8; N]
+    ensures { N ≡ length result }
 {
-    [0; TOKENS]
-}
-
-fn text_buffer() -> [u8; TEXTS]
-    ensures { TEXTS ≡ length result }
-{
-    [0; TEXTS]
-}
-
-fn error_buffer() -> [u8; ERRORS]
-    ensures { ERRORS ≡ length result }
-{
-    [0; ERRORS]
+    [0; N]
 }
 
 // Writes the listing of a script at the front of a buffer, as far as it fits, and answers its length. The rest of the buffer keeps.
@@ -53,12 +39,12 @@ pub fn list(script: &[u8], buf: &mut [u8]) -> usize
     if LISTED < script.len() {
         return put_bytes(b"long\n", buf, 0);
     }
-    let mut tokens = token_buffer();
-    let mut texts = text_buffer();
-    let mut errors = error_buffer();
+    let mut tokens = zeros::<TOKENS>();
+    let mut texts = zeros::<TEXTS>();
+    let mut errors = zeros::<ERRORS>();
     let a = lexer::tokenize(script, &mut tokens, &mut texts, &mut errors);
     match a {
-        Answer::Done(u) => put_answer(script, &tokens, &texts, &errors, u, buf),
-        Answer::Refused(number, figure) => put_refused(number, figure, buf),
+        Ok(u) => put_answer(script, &tokens, &texts, &errors, u, buf),
+        Err(refusal) => put_refused(refusal.number(), refusal.figure(), buf),
     }
 }

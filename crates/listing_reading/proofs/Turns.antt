@@ -10,7 +10,7 @@ use Rattle.characters.specs.Choice.{◌is◌}
 use Rattle.output.specs.Writing.{Put}
 use Rattle.output.proofs.Buffers.{Writing, write_start, write_more, write_end}
 use Rattle.rules.specs.Tables.{EOF}
-use Rattle.records.specs.Answers.{Answer, got, refused}
+use Rattle.refusals.specs.Answers.{Answer, got, refused}
 use Rattle.record_reading.specs.Reading.{next_at, next_error_at}
 use Rattle.record_texts.specs.Texts.{text_check_at, text_at}
 use Rattle.record_lists.specs.Lists.{token_turn, tokens_from, error_of, error_turn, errors_from}

@@ -8,7 +8,7 @@ ghost use Rattle.listing_reading.specs.Reading.{record_line, tokens_read, errors
 
 use listing_lines::{put_closed, put_error, put_fixed, put_token};
 use record_reading::{errors, read};
-use records::answers::{Next, NextError, TextCheck, TokenRecord};
+use records::answers::TokenRecord;
 use records::kinds;
 use room::Used;
 use rules::kinds::EOF;
@@ -51,12 +51,11 @@ fn put_tokens<'a>(
 {
     let mut p = 0;
     let mut place = 0;
-    let mut left = count;
-    while 0 < left {
-        let Next::Got(r, next) = read::next_token(tokens, place) else {
+    for _turn in 0..count {
+        let Ok((r, next)) = read::next_token(tokens, place) else {
             return p;
         };
-        let TextCheck::Inside = record_texts::text_check(script, texts, tokens, place) else {
+        let Ok(()) = record_texts::text_check(script, texts, tokens, place) else {
             return p;
         };
         p = put_record(script, texts, tokens, place, r, buf, p);
@@ -64,7 +63,6 @@ fn put_tokens<'a>(
             return p;
         }
         place = next;
-        left -= 1;
     }
     p
 }
@@ -76,14 +74,12 @@ fn put_errors(s: &[u8], count: usize, buf: &mut [u8], at: usize) -> usize
 {
     let mut p = at;
     let mut place = 0;
-    let mut left = count;
-    while 0 < left {
-        let NextError::Got(r, next) = errors::next_error(s, place) else {
+    for _turn in 0..count {
+        let Ok((r, next)) = errors::next_error(s, place) else {
             return p;
         };
         p = put_error(r, buf, p);
         place = next;
-        left -= 1;
     }
     p
 }

@@ -1,5 +1,5 @@
 -- From the contract of printing alone: what a yes says, printing the print again, and a buffer that is never short. Assumes nothing.
-use Rattle.std.specs.Prelude.{if◌then◌else◌, Option, Some, None}
+use Rattle.std.specs.Prelude.{Result, Ok, Err, Option, Some, None, if◌then◌else◌}
 use mathlib.Core.Path.{◌≡◌, refl, sym, ◌∙◌, ap, subst}
 use mathlib.Core.Bool.{Bool, true, false, ◌&&◌, not, false≢true}
 use mathlib.Core.List.{List, [], ◌∷◌, ◌++◌}
@@ -14,69 +14,48 @@ use Rattle.byte_order_mark.specs.Mark.{after_mark}
 use Rattle.byte_order_mark.proofs.Marks.{mark_length_after}
 use Rattle.rules.specs.Tokens.{TokenizeError}
 use Rattle.rules.specs.Script.{LIMIT, accepted, script_errors}
-use Rattle.records.specs.Answers.{Answer, got, refused}
-use Rattle.questions.specs.declared.Asked.{Asked}
-use Rattle.questions.specs.declared.Asked.TheVariants.{Yes, No}
+use Rattle.refusals.specs.declared.Refusal.{Refusal}
+use Rattle.refusals.specs.declared.Refusal.TheVariants.{Print}
+use Rattle.refusals.specs.Refusals.{RefusedPrint}
+use Rattle.refusals.specs.Answers.{Answer, got, refused, ◌then◌}
+use Rattle.refusals.proofs.Answers.{got_is_not_refused, same_got, same_refused, ok_is, yes_then}
 use Rattle.questions.specs.Questions.{ask_utf8, ask_text}
-use Rattle.questions.proofs.Questions.{no_is_not_yes, yes_accepted}
+use Rattle.questions.proofs.Questions.{yes_accepted}
 use Rattle.prints.specs.Print.{print_bytes}
 use Rattle.prints.specs.Reprint.{Reprints}
 use Rattle.prints.proofs.Scripts.{script_reprints, script_print_size}
-use Rattle.printing.specs.declared.Answer as code
-use Rattle.printing.specs.declared.Answer.TheVariants.{Done, Refused}
-use Rattle.printing.specs.Printing.{RefusedPrint, of_answer, ask_mistake, ask_print, ◌then◌, print_answer, buffer_after, Printed}
+use Rattle.printing.specs.Printing.{ask_mistake, ask_print, print_answer, buffer_after, Printed}
 use Rattle.printing.specs.Calls.{Filed, PrintsSame}
 use Rattle.printing.proofs.Laws.{mistake_yes, print_room}
 
--- ── Answers told apart ──
-
-got_is_not_refused : (u n f : ℕ) → ◌≡◌ {A = Answer ℕ} (got u) (refused n f) → ⊥
-got_is_not_refused u n f e = let z : ◌≡◌ {A = ℕ} 0 1 = cc in omega arith
-
-same_got : (u v : ℕ) → ◌≡◌ {A = Answer ℕ} (got u) (got v) → u ≡ v
-same_got u v e = cc
-
-same_number : (n f m g : ℕ) → ◌≡◌ {A = Answer ℕ} (refused n f) (refused m g) → n ≡ m
-same_number n f m g e = cc
-
--- The code's answer, where it is known which one it was.
-done_is : (r : code.Answer) (n : ℕ) → of_answer r ≡ got n → r ≡ Done n
-done_is (Done m) n e = ap Done (same_got m n e)
-done_is (Refused m f) n e = absurd (got_is_not_refused n m f (sym e))
-
 -- ── Each question, answered with yes ──
 
-yes_right : (es : List TokenizeError) → ask_mistake es ≡ Yes → es ≡ []
+yes_right : (es : List TokenizeError) → ask_mistake es ≡ got tt → es ≡ []
 unfolding ask_mistake
 yes_right [] e = refl
-yes_right (x ∷ es) e = absurd (no_is_not_yes _ _ e)
+yes_right (x ∷ es) e = absurd (got_is_not_refused tt _ _ (sym e))
 
-yes_room : (needed size : ℕ) → ask_print needed size ≡ Yes → needed ≤ size
+yes_room : (needed size : ℕ) → ask_print needed size ≡ got tt → needed ≤ size
 unfolding ask_print
 yes_room needed size e = go (leb needed size) refl e
   where
-    go : (b : Bool) → leb needed size ≡ b → (if not b then No RefusedPrint needed else Yes) ≡ Yes → needed ≤ size
+    go : (b : Bool) → leb needed size ≡ b → ◌≡◌ {A = Answer (Unit {0})} (if not b then refused RefusedPrint needed else got tt) (got tt) → needed ≤ size
     go true q k = leb-true needed size q
-    go false q k = absurd (no_is_not_yes _ _ k)
+    go false q k = absurd (got_is_not_refused tt _ _ (sym k))
 
-accepted_yes : (s : List ℕ) → accepted s ≡ true → ask_text s ≡ Yes
+accepted_yes : (s : List ℕ) → accepted s ≡ true → ask_text s ≡ got tt
 unfolding ask_text ask_utf8 accepted is_utf8 is_valid
 accepted_yes s e = go (leb (length s) LIMIT) (first_bad s) e
   where
-    go : (b : Bool) (x : Option ℕ) → (b && is_valid x) ≡ true → (if not b then No 1 (length s) else ask_utf8 s x) ≡ Yes
+    go : (b : Bool) (x : Option ℕ) → (b && is_valid x) ≡ true → (if not b then refused 1 (length s) else ask_utf8 s x) ≡ got tt
     go true None k = refl
     go true (Some p) k = absurd (false≢true k)
     go false x k = absurd (false≢true k)
 
-yes_then : (a : Asked) (later : Answer ℕ) (n : ℕ) → got n ≡ (a then later) → (a ≡ Yes) × (got n ≡ later)
-unfolding ◌then◌
-yes_then Yes later n e = (refl, e)
-yes_then (No m f) later n e = absurd (got_is_not_refused n m f e)
-
 -- ── What a yes says ──
 
-module _ (s out : List ℕ) (n : ℕ) (out' : List ℕ) (w : Printed s out (Done n) out') where
-  all_yes : (ask_text s ≡ Yes) × (ask_mistake (script_errors s) ≡ Yes) × (ask_print (length (print_bytes s)) (length out) ≡ Yes) × (n ≡ length (print_bytes s))
+module _ (s out : List ℕ) (n : ℕ) (out' : List ℕ) (w : Printed s out (Ok n) out') where
+  all_yes : (ask_text s ≡ got tt) × (ask_mistake (script_errors s) ≡ got tt) × (ask_print (length (print_bytes s)) (length out) ≡ got tt) × (n ≡ length (print_bytes s))
   unfolding print_answer
   all_yes =
       let a = yes_then _ _ n w.answer in
@@ -110,21 +89,21 @@ right_answer : (p : List ℕ) (size : ℕ) → accepted p ≡ true → script_er
 unfolding print_answer ◌then◌
 right_answer p size ok right h = rw (accepted_yes p ok, mistake_yes (script_errors p) right, print_room (length (print_bytes p)) size h)
 
-module _ (s p : List ℕ) (same : Reprints s p) (out : List ℕ) (r : code.Answer) (out' : List ℕ) (h : length p ≤ length out)
+module _ (s p : List ℕ) (same : Reprints s p) (out : List ℕ) (r : Result ℕ Refusal) (out' : List ℕ) (h : length p ≤ length out)
     (w : Printed p out r out') where
-  again_answer : r ≡ Done (length p)
+  again_answer : r ≡ Ok (length p)
   again_answer =
       let e : length (print_bytes p) ≡ length p = ap length same.prints_again in
-      done_is r (length p)
+      ok_is r (length p)
       (w.answer ∙ (right_answer p (length out) same.is_accepted same.no_error (rw e h) ∙ ap got e))
 
   again_front : take (length p) out' ≡ p
   again_front =
-      (print_says p out (length p) out' (subst (λ (x : code.Answer). Printed p out x out') again_answer w)).front
+      (print_says p out (length p) out' (subst (λ (x : Result ℕ Refusal). Printed p out x out') again_answer w)).front
       ∙ same.prints_again
 
 -- The bytes that a first call wrote, within the limit.
-module _ (s out : List ℕ) (n : ℕ) (out' : List ℕ) (w : Printed s out (Done n) out') (fits : n ≤ LIMIT) where
+module _ (s out : List ℕ) (n : ℕ) (out' : List ℕ) (w : Printed s out (Ok n) out') (fits : n ≤ LIMIT) where
   reprints_bytes : Reprints s (print_bytes s)
   reprints_bytes =
       let f = print_says s out n out' w in
@@ -158,16 +137,16 @@ class_low s = go (is_cut s) (is_barred s)
     go false false = omega arith
 
 -- The numbers of the first two questions.
-text_number : (s : List ℕ) (n f : ℕ) → ask_text s ≡ No n f → n ≤ 10
+text_number : (s : List ℕ) (n f : ℕ) → ask_text s ≡ refused n f → n ≤ 10
 unfolding ask_text ask_utf8
 text_number s n f e = go (leb (length s) LIMIT) (first_bad s) e
   where
-    number : (m g : ℕ) → m ≤ 10 → No m g ≡ No n f → n ≤ 10
-    number m g h k = let z : m ≡ n = cc in omega arith
+    number : (m g : ℕ) → m ≤ 10 → ◌≡◌ {A = Answer (Unit {0})} (refused m g) (refused n f) → n ≤ 10
+    number m g h k = let z = (same_refused _ _ _ _ k).0 in omega arith
 
-    go : (b : Bool) (x : Option ℕ) → (if not b then No 1 (length s) else ask_utf8 s x) ≡ No n f → n ≤ 10
+    go : (b : Bool) (x : Option ℕ) → (if not b then refused 1 (length s) else ask_utf8 s x) ≡ refused n f → n ≤ 10
     go false x k = number 1 (length s) (omega arith) k
-    go true None k = absurd (no_is_not_yes n f (sym k))
+    go true None k = absurd (got_is_not_refused tt n f k)
     go true (Some p) k = number (bad_class (drop p s)) p (class_low (drop p s)) k
 
 -- With room for the print no answer is 12.
@@ -176,23 +155,23 @@ room_answer : (s : List ℕ) (size f : ℕ) → (accepted s ≡ true → script_
 unfolding print_answer ask_mistake ◌then◌
 room_answer s size f room e = go (ask_text s) refl e
   where
-    last : ask_text s ≡ Yes → (es : List TokenizeError) → script_errors s ≡ es
+    last : ask_text s ≡ got tt → (es : List TokenizeError) → script_errors s ≡ es
         → refused RefusedPrint f ≡ (ask_mistake es then ask_print (length (print_bytes s)) size then got (length (print_bytes s))) → ⊥
     last y [] q k =
         let h = print_room (length (print_bytes s)) size (room (yes_accepted s y) q) in
         got_is_not_refused (length (print_bytes s)) RefusedPrint f (sym (rw h at k))
-    last y (x ∷ es) q k = let z = same_number _ _ _ _ k in absurd (omega arith)
+    last y (x ∷ es) q k = let z = (same_refused _ _ _ _ k).0 in absurd (omega arith)
 
-    go : (a : Asked) → ask_text s ≡ a
+    go : (a : Answer (Unit {0})) → ask_text s ≡ a
         → refused RefusedPrint f ≡ (a then ask_mistake (script_errors s) then ask_print (length (print_bytes s)) size then got (length (print_bytes s))) → ⊥
-    go Yes y k = last y (script_errors s) refl k
-    go (No n g) y k = let z = same_number _ _ _ _ k in let l = text_number s n g y in absurd (omega arith)
+    go (got _) y k = last y (script_errors s) refl k
+    go (refused n g) y k = let z = (same_refused _ _ _ _ k).0 in let l = text_number s n g y in absurd (omega arith)
 
 -- A print buffer of six times the script's bytes, its mark not counted, is never short.
-pub never_short : (s out : List ℕ) (f : ℕ) (out' : List ℕ) → 6 * length (after_mark s) ≤ length out → Printed s out (Refused RefusedPrint f) out' → ⊥
+pub never_short : (s out : List ℕ) (f : ℕ) (out' : List ℕ) → 6 * length (after_mark s) ≤ length out → Printed s out (Err (Print f)) out' → ⊥
 never_short s out f out' h w =
     room_answer s (length out) f (λ ok right. omega (arith, script_print_size s ok right)) w.answer
 
 -- So one of six times all its bytes is not.
-pub never_short_whole : (s out : List ℕ) (f : ℕ) (out' : List ℕ) → 6 * length s ≤ length out → Printed s out (Refused RefusedPrint f) out' → ⊥
+pub never_short_whole : (s out : List ℕ) (f : ℕ) (out' : List ℕ) → 6 * length s ≤ length out → Printed s out (Err (Print f)) out' → ⊥
 never_short_whole s out f out' h w = never_short s out f out' (omega (arith, mark_length_after s)) w

@@ -8,37 +8,40 @@ use native.Mathlib.Omega.{arith}
 use borrow.Author.Tests.{le-leb, lt-leb}
 use lib.ListN.{length, take, drop}
 use lib.Seq.{length-take-le, drop-length}
+use Rattle.std.specs.Prelude.{Ok, Err}
+use Rattle.refusals.specs.declared.Refusal.{Refusal}
+use Rattle.refusals.specs.declared.Refusal.TheVariants.{Mistake, Print}
+use Rattle.refusals.specs.Refusals.{RefusedMistake, RefusedPrint, refusal_number, refusal_figure}
+use Rattle.refusals.specs.Answers.{got, refused, ◌then◌}
 use Rattle.rules.specs.Tokens.{TokenizeError}
 use Rattle.rules.specs.Script.{script_errors}
 use Rattle.records.proofs.Sets.{sets_front}
 use Rattle.output.specs.Writing.{Put}
-use Rattle.questions.specs.declared.Asked.TheVariants.{Yes, No}
 use Rattle.questions.specs.Questions.{ask_text}
 use Rattle.prints.specs.Print.{print_bytes}
 use Rattle.first_error.specs.First.{first_start}
 use Rattle.text_parts.specs.declared.Flawed.{Flawed}
 use Rattle.print_loop.proofs.Outcomes.{walked_bad, walked_print}
 use Rattle.printing.specs.Passes.{WalkedFront}
-use Rattle.printing.specs.declared.Answer.TheVariants.{Done, Refused}
-use Rattle.printing.specs.Printing.{RefusedMistake, RefusedPrint, ask_mistake, ask_print, ◌then◌, print_answer, buffer_after, Printed}
+use Rattle.printing.specs.Printing.{ask_mistake, ask_print, print_answer, buffer_after, Printed}
 
 -- ── The questions ──
 
 -- "11 if an error was recorded (figure: start of the first)".
-pub mistake_no : (es : List TokenizeError) → (es ≡ [] → ⊥) → ask_mistake es ≡ No RefusedMistake (first_start es)
+pub mistake_no : (es : List TokenizeError) → (es ≡ [] → ⊥) → ask_mistake es ≡ refused RefusedMistake (first_start es)
 unfolding ask_mistake first_start
 mistake_no [] f = absurd (f refl)
 mistake_no (e ∷ es) f = refl
 
-pub mistake_yes : (es : List TokenizeError) → es ≡ [] → ask_mistake es ≡ Yes
+pub mistake_yes : (es : List TokenizeError) → es ≡ [] → ask_mistake es ≡ got tt
 unfolding ask_mistake
 mistake_yes es e = rw e
 
-pub print_no_room : (needed size : ℕ) → size < needed → ask_print needed size ≡ No RefusedPrint needed
+pub print_no_room : (needed size : ℕ) → size < needed → ask_print needed size ≡ refused RefusedPrint needed
 unfolding ask_print
 print_no_room needed size h = rw (lt-leb needed size h)
 
-pub print_room : (needed size : ℕ) → needed ≤ size → ask_print needed size ≡ Yes
+pub print_room : (needed size : ℕ) → needed ≤ size → ask_print needed size ≡ got tt
 unfolding ask_print
 print_room needed size h = rw (le-leb needed size h)
 
@@ -71,14 +74,14 @@ front_print s out out' n w f right e h =
 
 module _ (s out : List ℕ) where
   -- Questions 1 and 2.
-  pub print_refused : (n f : ℕ) → ask_text s ≡ No n f → Printed s out (Refused n f) out
+  pub print_refused : (x : Refusal) → ask_text s ≡ refused (refusal_number x) (refusal_figure x) → Printed s out (Err x) out
   unfolding print_answer ◌then◌ buffer_after
-  print_refused n f e = record { answer = rw e; out_after = refl }
+  print_refused x e = record { answer = rw e; out_after = refl }
 
-  module _ (out₁ : List ℕ) (y : ask_text s ≡ Yes) where
+  module _ (out₁ : List ℕ) (y : ask_text s ≡ got tt) where
     -- 11.
     pub print_mistake : (e : Flawed) (f : ℕ) → WalkedFront s 0 out out₁ (Err e) → f ≡ first_start (script_errors s)
-        → Printed s out (Refused RefusedMistake f) out₁
+        → Printed s out (Err (Mistake f)) out₁
     unfolding print_answer ◌then◌ buffer_after
     print_mistake e f first q =
         record {
@@ -94,7 +97,7 @@ module _ (s out : List ℕ) where
       size = put_size _ _ (print_bytes s) bytes first.walked.1
 
       -- 12.
-      pub print_short : length out < bytes → Printed s out (Refused RefusedPrint bytes) out₁
+      pub print_short : length out < bytes → Printed s out (Err (Print bytes)) out₁
       unfolding print_answer ◌then◌ buffer_after
       print_short h =
           record {
@@ -103,7 +106,7 @@ module _ (s out : List ℕ) where
           }
 
       -- A yes.
-      pub print_done : bytes ≤ length out → (out₂ : List ℕ) (v : Result ℕ Flawed) → WalkedFront s bytes out₁ out₂ v → Printed s out (Done bytes) out₂
+      pub print_done : bytes ≤ length out → (out₂ : List ℕ) (v : Result ℕ Flawed) → WalkedFront s bytes out₁ out₂ v → Printed s out (Ok bytes) out₂
       unfolding print_answer ◌then◌ buffer_after
       print_done h out₂ v second =
           let z = subst (λ (l : List ℕ). WalkedFront s bytes l out₂ v) (front_none s out out₁ (Ok bytes) first) second in

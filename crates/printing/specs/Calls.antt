@@ -1,10 +1,9 @@
 -- What a caller of printing has after a yes, and after a second call over what the first wrote (document 02, order 2).
-use Rattle.std.specs.Prelude.{◌≡◌, true, List, [], ℕ, ◌≤◌, length, take, drop}
+use Rattle.std.specs.Prelude.{◌≡◌, Result, Ok, true, List, [], ℕ, ◌≤◌, length, take, drop}
 use Rattle.rules.specs.Script.{accepted, script_errors}
 use Rattle.prints.specs.Print.{print_bytes}
 use Rattle.prints.specs.Reprint.{Reprints}
-use Rattle.printing.specs.declared.Answer.{Answer}
-use Rattle.printing.specs.declared.Answer.TheVariants.{Done}
+use Rattle.refusals.specs.declared.Refusal.{Refusal}
 use Rattle.printing.specs.Printing.{Printed}
 
 -- The script `s` was printed as `n` bytes into the buffer `out`, which is `out'` afterwards.
@@ -21,5 +20,5 @@ pub record Filed (s out : List ℕ) (n : ℕ) (out' : List ℕ) : Type 0 where
 pub record PrintsSame (s : List ℕ) (n : ℕ) (p : List ℕ) : Type 0 where
   pub size : length p ≡ n
   pub reprints : Reprints s p
-  pub answer : (out : List ℕ) (r : Answer) (out' : List ℕ) → n ≤ length out → Printed p out r out' → r ≡ Done n
-  pub front : (out : List ℕ) (r : Answer) (out' : List ℕ) → n ≤ length out → Printed p out r out' → take n out' ≡ p
+  pub answer : (out : List ℕ) (r : Result ℕ Refusal) (out' : List ℕ) → n ≤ length out → Printed p out r out' → r ≡ Ok n
+  pub front : (out : List ℕ) (r : Result ℕ Refusal) (out' : List ℕ) → n ≤ length out → Printed p out r out' → take n out' ≡ p

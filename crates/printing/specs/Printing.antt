@@ -1,45 +1,25 @@
 -- What printing answers, and what it leaves in the print buffer (document 02, order 2, under "Answers").
-use Rattle.std.specs.Prelude.{◌≡◌, not, List, [], ◌∷◌, ◌++◌, ℕ, leb, length, drop, if◌then◌else◌}
+use Rattle.std.specs.Prelude.{◌≡◌, Result, not, List, [], ◌∷◌, ◌++◌, ℕ, leb, length, drop, if◌then◌else◌}
 use Rattle.rules.specs.Tokens.{TokenizeError}
 use Rattle.rules.specs.Script.{script_errors}
-use Rattle.records.specs.Answers.{Answer, got, refused}
-use Rattle.questions.specs.declared.Asked.{Asked}
-use Rattle.questions.specs.declared.Asked.TheVariants.{Yes, No}
+use Rattle.refusals.specs.declared.Refusal.{Refusal}
+use Rattle.refusals.specs.Refusals.{RefusedMistake, RefusedPrint}
+use Rattle.refusals.specs.Answers.{Answer, got, refused, of_answer, ◌then◌}
 use Rattle.questions.specs.Questions.{ask_text}
 use Rattle.prints.specs.Print.{print_bytes}
-use Rattle.printing.specs.declared.Answer as code
-use Rattle.printing.specs.declared.Answer.TheVariants.{Done, Refused}
-
--- The numbers that order 2 adds.
-abbrev pub RefusedMistake : ℕ
-RefusedMistake = 11
-
-abbrev pub RefusedPrint : ℕ
-RefusedPrint = 12
-
--- The answer that each case of the code's enum is: a yes with the bytes written, or the number of a question and its figure.
-abbrev pub of_answer : code.Answer → Answer ℕ
-of_answer (Done n) = got n
-of_answer (Refused number figure) = refused number figure
 
 -- ── The questions ──
 
 -- "11 if an error was recorded (figure: start of the first)".
-unfoldable pub ask_mistake : List TokenizeError → Asked
-ask_mistake [] = Yes
-ask_mistake (e ∷ es) = No RefusedMistake e.span.start
+unfoldable pub ask_mistake : List TokenizeError → Answer (Unit {0})
+ask_mistake [] = got tt
+ask_mistake (e ∷ es) = refused RefusedMistake e.span.start
 
 -- "then 12 if the output buffer is short (figure: bytes needed)".
-unfoldable pub ask_print : ℕ → ℕ → Asked
-ask_print needed size = if not (leb needed size) then No RefusedPrint needed else Yes
+unfoldable pub ask_print : ℕ → ℕ → Answer (Unit {0})
+ask_print needed size = if not (leb needed size) then refused RefusedPrint needed else got tt
 
 -- ── The answer ──
-
--- After a yes the later answer, and after a no its number and figure.
-infixr 20 ◌then◌
-unfoldable pub ◌then◌ : Asked → Answer ℕ → Answer ℕ
-Yes then later = later
-No number figure then later = refused number figure
 
 -- A script, and a print buffer of this size: "after question 2", 11, then 12. "A yes gives the bytes written."
 unfoldable pub print_answer : List ℕ → ℕ → Answer ℕ
@@ -54,6 +34,6 @@ buffer_after (got n) old bytes = bytes ++ drop (length bytes) old
 buffer_after (refused number figure) old bytes = old
 
 -- Printing the script `s` answered `r`, with the print buffer before and after it.
-pub record Printed (s out : List ℕ) (r : code.Answer) (out' : List ℕ) : Type 0 where
+pub record Printed (s out : List ℕ) (r : Result ℕ Refusal) (out' : List ℕ) : Type 0 where
   pub answer : of_answer r ≡ print_answer s (length out)
   pub out_after : out' ≡ buffer_after (of_answer r) out (print_bytes s)

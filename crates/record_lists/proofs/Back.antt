@@ -14,7 +14,8 @@ use Rattle.rules.specs.Tokens.{Token, TokenizeError}
 use Rattle.rules.specs.Tables.{EOF}
 use Rattle.rules.specs.Bounds.{Every, Small}
 use Rattle.records.specs.Kinds.{has_text, is_made, record_length, has_code, error_length}
-use Rattle.records.specs.Answers.{Answer, got, refused, Turn}
+use Rattle.refusals.specs.Answers.{Answer, got, refused}
+use Rattle.records.specs.Answers.{Turn}
 use Rattle.record_reading.specs.Reading.{kind_at, is_whole, record_at, after_at, next_at, error_at, next_error_at}
 use Rattle.record_texts.specs.Texts.{home_of, is_inside, part_of, text_check_at, text_at}
 use Rattle.records.specs.Layout.{made_text, text_bytes, text_offset, record_of, token_bytes_from, token_bytes, code_of, error_record_of, error_bytes}

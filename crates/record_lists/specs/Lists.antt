@@ -8,7 +8,7 @@ use Rattle.rules.specs.Tables.{EOF, Error, UnexpectedCharacter, UnterminatedDocC
 use Rattle.rules.specs.Bounds.{Small, SpanFits}
 use Rattle.records.specs.Kinds.{has_text, is_made, has_code}
 use Rattle.spellings.specs.Spelling.{spelling}
-use Rattle.records.specs.Answers.{Answer, got, refused}
+use Rattle.refusals.specs.Answers.{Answer, got, refused}
 use Rattle.record_reading.specs.Reading.{next_at, next_error_at}
 use Rattle.record_texts.specs.Texts.{text_check_at, text_at}
 use Rattle.records.specs.declared.answers.TokenRecord.{TokenRecord}

@@ -6,7 +6,9 @@ use Rattle.spans.specs.declared.Span.{Span}
 use Rattle.rules.specs.Tables.{EOF}
 use Rattle.records.specs.Fields.{END, START_LINE, START_COL, END_LINE, END_COL, TEXT_OFFSET, TEXT_LENGTH, CODE_POINT}
 use Rattle.records.specs.Kinds.{is_kind, has_text, record_length, is_error_kind, has_code, error_length}
-use Rattle.records.specs.Answers.{got, refused, RefusedKind, RefusedPlace, Turn}
+use Rattle.refusals.specs.Refusals.{RefusedKind, RefusedPlace}
+use Rattle.refusals.specs.Answers.{got, refused}
+use Rattle.records.specs.Answers.{Turn}
 use Rattle.records.specs.declared.answers.TokenRecord.{TokenRecord}
 use Rattle.records.specs.declared.answers.ErrorRecord.{ErrorRecord}
 

@@ -1,11 +1,12 @@
 // Reading error records back.
 ghost use Rattle.std.specs.Prelude.{◌≡◌, true};
-ghost use Rattle.records.specs.Answers.{of_next_error};
+ghost use Rattle.records.specs.Answers.{of_turn};
 ghost use Rattle.record_reading.specs.Reading.{is_whole_error, error_at, next_error_at};
 
 use super::read::{get_span, get32};
-use records::answers::{ErrorRecord, NextError};
-use records::{fields, kinds, refusals};
+use records::answers::ErrorRecord;
+use records::{fields, kinds};
+use refusals::Refusal;
 use rules::error_kinds;
 
 // Whether a whole error record of a known kind starts at a place.
@@ -43,14 +44,14 @@ pub fn error_at(s: &[u8], at: usize) -> ErrorRecord
     }
 }
 
-// The error record at a place, or the refusal 7. There is no EOF among them.
-pub fn next_error(s: &[u8], at: usize) -> NextError
-    ensures { of_next_error result ≡ next_error_at s.now at }
+// The error record at a place and the place where a reader then stands, or the refusal 7. There is no EOF among them.
+pub fn next_error(s: &[u8], at: usize) -> Result<(ErrorRecord, usize), Refusal>
+    ensures { of_turn at result ≡ next_error_at s.now at }
 {
-    if is_whole_error(s, at) {
-        let e = error_at(s, at);
-        let place = at + kinds::error_length(e.kind);
-        return NextError::Got(e, place);
+    if !is_whole_error(s, at) {
+        return Err(Refusal::Place(at as u64));
     }
-    NextError::Refused(refusals::no_record(at), at)
+    let e = error_at(s, at);
+    let place = at + kinds::error_length(e.kind);
+    Ok((e, place))
 }

@@ -1,11 +1,13 @@
 // Reading records back at a place of a lent slice: next, consume, match, and a next over error records.
-ghost use Rattle.std.specs.Prelude.{◌≡◌, true, ◌+◌, ◌≤◌, ◌<◌, length};
+ghost use Rattle.std.specs.Prelude.{◌≡◌, true, false, ◌+◌, ◌≤◌, ◌<◌, length, MatchResult};
 ghost use Rattle.records.specs.Fields.{SPAN, WORD};
-ghost use Rattle.records.specs.Answers.{of_next, of_consumed, of_matched};
+ghost use Rattle.records.specs.Kinds.{is_kind};
+ghost use Rattle.records.specs.Answers.{of_turn, of_consumed};
 ghost use Rattle.record_reading.specs.Reading.{num32, span_at, kind_at, is_whole, record_at, after_at, next_at, consume_at, match_at};
 
-use records::answers::{Consumed, Matched, Next, TokenRecord};
-use records::{fields, kinds, refusals};
+use records::answers::TokenRecord;
+use records::{fields, kinds};
+use refusals::Refusal;
 use spans::Span;
 
 // The 32-bit little-endian number at a place.
@@ -89,48 +91,56 @@ fn after(s: &[u8], at: usize) -> usize
     }
 }
 
-// The record at a place, or the refusal 7.
-pub fn next_token(s: &[u8], at: usize) -> Next
-    ensures { of_next result ≡ next_at s.now at }
+// Question 6: whether there is such a kind of token.
+fn ask_kind(kind: u8) -> Result<(), Refusal>
+    ensures { MatchResult result (λ _. is_kind kind ≡ true) (λ x. (x ≡ Refusal.Kind kind) × (is_kind kind ≡ false)) }
 {
-    if is_whole(s, at) {
-        let r = record_at(s, at);
-        let place = after(s, at);
-        return Next::Got(r, place);
+    if kinds::is_kind(kind) {
+        Ok(())
+    } else {
+        Err(Refusal::Kind(kind as u64))
     }
-    Next::Refused(refusals::no_record(at), at)
 }
 
-// The record at a place and whether it is of the kind asked for, or the refusals 6 and 7. It moves on either way.
-pub fn consume(s: &[u8], at: usize, kind: u8) -> Consumed
-    ensures { of_consumed result ≡ consume_at s.now at kind }
+// Question 7: whether a whole record of a known kind starts at a place.
+pub fn ask_record(s: &[u8], at: usize) -> Result<(), Refusal>
+    ensures { MatchResult result (λ _. is_whole s.now at ≡ true) (λ x. (x ≡ Refusal.Place at) × (is_whole s.now at ≡ false)) }
 {
-    if !kinds::is_kind(kind) {
-        return Consumed::Refused(refusals::no_kind(kind), at);
-    }
     if is_whole(s, at) {
-        let r = record_at(s, at);
-        let fits = r.kind == kind;
-        let place = after(s, at);
-        return Consumed::Got(r, fits, place);
+        Ok(())
+    } else {
+        Err(Refusal::Place(at as u64))
     }
-    Consumed::Refused(refusals::no_record(at), at)
 }
 
-// Whether the record at a place is of the kind asked for, or the refusals 6 and 7. It moves on only then.
-pub fn match_kind(s: &[u8], at: usize, kind: u8) -> Matched
-    ensures { of_matched result ≡ match_at s.now at kind }
+// The record at a place and the place where a reader then stands, or the refusal 7.
+pub fn next_token(s: &[u8], at: usize) -> Result<(TokenRecord, usize), Refusal>
+    ensures { of_turn at result ≡ next_at s.now at }
 {
-    if !kinds::is_kind(kind) {
-        return Matched::Refused(refusals::no_kind(kind), at);
+    ask_record(s, at)?;
+    Ok((record_at(s, at), after(s, at)))
+}
+
+// The record at a place, whether it is of the kind asked for, and the place where a reader then stands, or the refusals 6 and 7. It moves
+// on either way.
+pub fn consume(s: &[u8], at: usize, kind: u8) -> Result<(TokenRecord, bool, usize), Refusal>
+    ensures { of_consumed at result ≡ consume_at s.now at kind }
+{
+    ask_kind(kind)?;
+    let (r, place) = next_token(s, at)?;
+    Ok((r, r.kind == kind, place))
+}
+
+// Whether the record at a place is of the kind asked for, and the place where a reader then stands, or the refusals 6 and 7. It moves on
+// only then.
+pub fn match_kind(s: &[u8], at: usize, kind: u8) -> Result<(bool, usize), Refusal>
+    ensures { of_turn at result ≡ match_at s.now at kind }
+{
+    ask_kind(kind)?;
+    ask_record(s, at)?;
+    if s[at] == kind {
+        Ok((true, after(s, at)))
+    } else {
+        Ok((false, at))
     }
-    if is_whole(s, at) {
-        let found = s[at];
-        if found == kind {
-            let place = after(s, at);
-            return Matched::Got(true, place);
-        }
-        return Matched::Got(false, at);
-    }
-    Matched::Refused(refusals::no_record(at), at)
 }

@@ -12,11 +12,10 @@ use native.Mathlib.Omega.{arith}
 use Rattle.byte_order_mark.specs.Mark.{mark_length, after_mark}
 use Rattle.byte_order_mark.specs.Slices.{bytes_behind}
 use Rattle.records.specs.Kinds.{has_text, is_made}
-use Rattle.records.specs.Answers.{Answer, got, refused}
+use Rattle.refusals.specs.Answers.{Answer, got, refused}
 use Rattle.record_reading.specs.Reading.{is_whole, record_at}
 use Rattle.record_texts.specs.Texts.{home_of, is_inside, part_of, text_check_at, text_at, home_place, part_place, text_place_at}
 use Rattle.records.specs.declared.answers.TokenRecord.{TokenRecord}
-use Rattle.records.specs.declared.answers.Refusal.{Refusal}
 use Rattle.record_reading.proofs.Places.{leb_same}
 
 -- ── A part of a buffer ──
@@ -101,11 +100,10 @@ module _ (script texts s : List ℕ) (at : ℕ) (r : TokenRecord) (w : is_whole 
   unfolding text_check_at
   check_inside home t h i = rw (w, ← e, t, ← h, i)
 
-  pub check_outside : (home : List ℕ) (x : Refusal) → has_text r.kind ≡ true → home ≡ home_of script texts r.kind
-      → is_inside home r.offset r.length ≡ false → (x.number ≡ 8) × (x.figure ≡ r.offset)
-      → refused x.number x.figure ≡ text_check_at script texts s at
+  pub check_outside : (home : List ℕ) → has_text r.kind ≡ true → home ≡ home_of script texts r.kind → is_inside home r.offset r.length ≡ false
+      → refused 8 r.offset ≡ text_check_at script texts s at
   unfolding text_check_at
-  check_outside home x t h i n = rw (w, ← e, t, ← h, i, n.0, n.1)
+  check_outside home t h i = rw (w, ← e, t, ← h, i)
 
 module _ (script texts s : List ℕ) (at : ℕ) (w : is_whole s at ≡ false) where
   pub text_none : [] ≡ text_at script texts s at
@@ -116,9 +114,9 @@ module _ (script texts s : List ℕ) (at : ℕ) (w : is_whole s at ≡ false) wh
   unfolding text_place_at
   text_none_place p q = rw w
 
-  pub check_none : (x : Refusal) → (x.number ≡ 7) × (x.figure ≡ at) → refused x.number x.figure ≡ text_check_at script texts s at
+  pub check_none : refused 7 at ≡ text_check_at script texts s at
   unfolding text_check_at
-  check_none x e = rw (w, e.0, e.1)
+  check_none = rw w
 
 -- ── The text is empty where the check refuses ──
 

@@ -3,7 +3,8 @@ use Rattle.std.specs.Prelude.{ℕ, ◌+◌, Bool, not, List, [], leb, length, ta
 use Rattle.byte_order_mark.specs.Mark.{mark_length, after_mark}
 use Rattle.byte_order_mark.specs.Slices.{bytes_behind}
 use Rattle.records.specs.Kinds.{has_text, is_made}
-use Rattle.records.specs.Answers.{Answer, got, refused, RefusedPlace, RefusedText}
+use Rattle.refusals.specs.Refusals.{RefusedPlace, RefusedText}
+use Rattle.refusals.specs.Answers.{Answer, got, refused}
 use Rattle.record_reading.specs.Reading.{is_whole, record_at}
 
 -- What the text of a kind is a part of: the script after its byte-order mark, or the text buffer.

@@ -3,12 +3,12 @@
 
 ghost use Rattle.std.specs.Prelude.{◌≡◌, length};
 ghost use Rattle.byte_order_mark.specs.Mark.{after_mark};
-ghost use Rattle.records.specs.Answers.{of_text_check};
+ghost use Rattle.refusals.specs.Answers.{of_answer};
 ghost use Rattle.record_texts.specs.Texts.{home_of, is_inside, part_of, text_check_at, text_at, home_place, part_place, text_place_at};
 
 use record_reading::read;
-use records::answers::TextCheck;
-use records::{kinds, refusals};
+use records::kinds;
+use refusals::Refusal;
 
 // Whether a part lies inside a slice.
 fn is_inside(s: &[u8], offset: usize, len: usize) -> bool
@@ -43,21 +43,19 @@ fn home<'a>(script: &'a [u8], texts: &'a [u8], kind: u8) -> &'a [u8]
 }
 
 // Whether the text of the record at a place lies inside its buffer, or the refusals 7 and 8.
-pub fn text_check<'a>(script: &'a [u8], texts: &'a [u8], s: &[u8], at: usize) -> TextCheck
-    ensures { of_text_check result ≡ text_check_at script.now texts.now s.now at }
+pub fn text_check<'a>(script: &'a [u8], texts: &'a [u8], s: &[u8], at: usize) -> Result<(), Refusal>
+    ensures { of_answer result ≡ text_check_at script.now texts.now s.now at }
 {
-    if !read::is_whole(s, at) {
-        return TextCheck::Refused(refusals::no_record(at));
-    }
+    read::ask_record(s, at)?;
     let r = read::record_at(s, at);
     if !kinds::has_text(r.kind) {
-        return TextCheck::Inside;
+        return Ok(());
     }
     let buffer = home(script, texts, r.kind);
     if is_inside(buffer, r.offset, r.length) {
-        return TextCheck::Inside;
+        return Ok(());
     }
-    TextCheck::Refused(refusals::no_text(r.offset))
+    Err(Refusal::Text(r.offset as u64))
 }
 
 // The text of the record at a place: a part of the script after its mark, or of the text buffer.

@@ -1,8 +1,7 @@
-// Token and error records in lent buffers (document 01, "Records" and "Questions before the answer"): what the kind of a record fixes,
-// what is answered, and what is refused. specs/ say how records lie in the buffers.
+// Token and error records in lent buffers (document 01, "Records"): what the kind of a record fixes, and what is read of one. specs/ say
+// how records lie in the buffers, and what a reader answers.
 #![tactic(auto)]
 
-pub mod answers; // answers.rt: what is read and answered
+pub mod answers; // answers.rt: what is read
 pub mod fields; // fields.rt: where the fields of a record lie
 pub mod kinds; // kinds.rt: what a kind fixes
-pub mod refusals; // refusals.rt: what is refused

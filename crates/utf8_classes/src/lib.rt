@@ -3,15 +3,10 @@
 
 ghost use Rattle.std.specs.Prelude.{◌≡◌, drop};
 ghost use Rattle.characters.specs.Utf8.{is_cut, has_own_range, is_barred, bad_class};
+ghost use Rattle.refusals.specs.Refusals.{refusal_number, refusal_figure};
 
 use characters::utf8;
-
-// The refusals of a text that is not UTF-8: by the class of its first bad sequence.
-pub const REFUSED_UTF8: u64 = 2;
-
-pub const REFUSED_CUT: u64 = 9;
-
-pub const REFUSED_BARRED: u64 = 10;
+use refusals::Refusal;
 
 // Whether the text ends before its first sequence does, and each byte is allowed in its place.
 fn is_cut(text: &[u8]) -> bool
@@ -48,19 +43,21 @@ fn is_barred(text: &[u8]) -> bool
     has_own_range(text[0]) & utf8::is_tail(text[1]) & !sequences::second_ok(text[0], text[1])
 }
 
-// The class of the bad sequence at a place of a text.
-pub fn bad_class(text: &[u8], at: usize) -> u64
-    ensures { result ≡ bad_class (drop at text.now) }
+// The refusal of a text with a bad sequence at a place: by the class of the sequence.
+pub fn bad_class(text: &[u8], at: usize) -> Refusal
+    ensures number { refusal_number result ≡ bad_class (drop at text.now) }
+    ensures figure { refusal_figure result ≡ at }
 {
+    let place = at as u64;
     if text.len() <= at {
-        return REFUSED_UTF8;
+        return Refusal::Utf8(place);
     }
     let rest = &text[at..];
     if is_cut(rest) {
-        return REFUSED_CUT;
+        return Refusal::Cut(place);
     }
     if is_barred(rest) {
-        return REFUSED_BARRED;
+        return Refusal::Barred(place);
     }
-    REFUSED_UTF8
+    Refusal::Utf8(place)
 }

@@ -9,4 +9,4 @@ returns-in_default c = record { value = rw (sym c.first_bad.ensures ∙ c.in_def
 
 pub returns : goal.returns
 unfolding check_number check_figure
-returns c = record { value = rw (sym c.first_bad.ensures ∙ c.in-Some.is) c.bad_class.ensures; figure_after = rw (sym c.first_bad.ensures ∙ c.in-Some.is) refl }
+returns c = record { value = c.number.ensures ∙ rw (sym c.first_bad.ensures ∙ c.in-Some.is) c.bad_class-refusal.ensures.number; figure_after = c.figure.ensures ∙ rw (sym c.first_bad.ensures ∙ c.in-Some.is) c.bad_class-refusal.ensures.figure }

@@ -1,14 +1,13 @@
 -- `next_token` meets its contract.
-use mathlib.Core.Path.{refl, sym, ap, ◌∙◌}
-use Rattle.host_answers.specs.Answers.{number_of, slots_after}
-use Rattle.host_reading.specs.Records.{record_values, token_values}
-use Rattle.records.specs.Answers.{of_next}
+use mathlib.Core.Path.{◌∙◌}
+use Rattle.host_answers.proofs.Slots.{turn_slots}
+use Rattle.host_reading.specs.Records.{token_values}
 use Rattle.host_reading.proofs.next_token.Goals as goal
 
-pub returns-in-Got : goal.returns-in-Got
-unfolding number_of slots_after record_values token_values
-returns-in-Got c = record { value = rw (sym c.next_token-n.ensures ∙ ap of_next c.in-Got.is) refl; answer_after = rw (sym c.next_token-n.ensures ∙ ap of_next c.in-Got.is) refl }
-
-pub returns-in-Refused : goal.returns-in-Refused
-unfolding number_of slots_after
-returns-in-Refused c = record { value = rw (sym c.next_token-n.ensures ∙ ap of_next c.in-Refused.is) refl; answer_after = rw (sym c.next_token-n.ensures ∙ ap of_next c.in-Refused.is) refl }
+pub returns : goal.returns
+returns c =
+    let m = turn_slots c.args.place _ _ token_values c.map.ensures.cases in
+    record {
+      value = rw (← c.next_token-next.ensures) (c.put_answer.ensures.value ∙ m.value);
+      answer_after = rw (← c.next_token-next.ensures) (c.put_answer.ensures.slots_after ∙ m.slots _);
+    }

@@ -6,10 +6,10 @@ pub returns-then-script-gt-LISTED : goal.returns-then-script-gt-LISTED
 returns-then-script-gt-LISTED c = let q = long_listed _ _ _ _ c.if-script-gt-LISTED.true c.put_bytes.ensures in record { put = q.0; upper_bound = q.1 }
 
 pub put_answer-requires : goal.put_answer-requires
-put_answer-requires c = let q = read_room _ _ _ _ _ _ _ _ c.tokenize-a.ensures c.if-script-gt-LISTED.false _ c.in-Done.is in record { errors_in_bounds = q.0; room = q.1 }
+put_answer-requires c = let q = read_room _ _ _ _ _ _ _ _ c.tokenize-a.ensures c.if-script-gt-LISTED.false _ c.in-Ok.is in record { errors_in_bounds = q.0; room = q.1 }
 
-pub returns-in-Done : goal.returns-in-Done
-returns-in-Done c = let q = read_listed _ _ _ _ _ _ _ _ c.tokenize-a.ensures c.if-script-gt-LISTED.false _ c.in-Done.is _ _ _ c.put_answer.ensures in record { put = q.0; upper_bound = q.1 }
+pub returns-in-Ok : goal.returns-in-Ok
+returns-in-Ok c = let q = read_listed _ _ _ _ _ _ _ _ c.tokenize-a.ensures c.if-script-gt-LISTED.false _ c.in-Ok.is _ _ _ c.put_answer.ensures in record { put = q.0; upper_bound = q.1 }
 
-pub returns-in-Refused : goal.returns-in-Refused
-returns-in-Refused c = let q = refused_listed _ _ _ _ _ _ _ _ c.tokenize-a.ensures c.if-script-gt-LISTED.false _ _ c.in-Refused.is c.token_buffer-tokens.ensures c.text_buffer-texts.ensures c.error_buffer-errors.ensures _ _ _ c.put_refused.ensures in record { put = q.0; upper_bound = q.1 }
+pub returns-in-Err : goal.returns-in-Err
+returns-in-Err c = let q = refused_listed _ _ _ _ _ _ _ _ c.tokenize-a.ensures c.if-script-gt-LISTED.false _ _ _ c.in-Err.is c.number.ensures c.figure.ensures c.zeros-tokens.ensures c.zeros-texts.ensures c.zeros-errors.ensures _ _ _ c.put_refused.ensures in record { put = q.0; upper_bound = q.1 }

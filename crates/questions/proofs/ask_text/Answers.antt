@@ -10,4 +10,4 @@ pub returns-in_default : goal.returns-in_default
 returns-in_default c = text_valid _ c.if-script-gt-LIMIT.false (sym c.first_bad.ensures ∙ c.in_default.is)
 
 pub returns : goal.returns
-returns c = text_bad _ _ _ c.if-script-gt-LIMIT.false (sym c.first_bad.ensures ∙ c.in-Some.is) c.bad_class.ensures
+returns c = text_bad _ _ _ c.if-script-gt-LIMIT.false (sym c.first_bad.ensures ∙ c.in-Some.is) c.bad_class.ensures.number c.bad_class.ensures.figure

@@ -7,15 +7,15 @@ use Rattle.record_reading.specs.Reading.{error_at}
 use native.Mathlib.Omega.{arith}
 use Rattle.record_reading.proofs.errors.next_error.Goals as goal
 
+pub returns-then-not-is_whole_error : goal.returns-then-not-is_whole_error
+returns-then-not-is_whole_error c = error_stop _ _ (sym c.is_whole_error.ensures ∙ c.if-not-is_whole_error.true)
+
 pub error_at-e-requires : goal.error_at-e-requires
-error_at-e-requires c = (sym c.is_whole_error.ensures ∙ c.if-is_whole_error.true)
+error_at-e-requires c = (sym c.is_whole_error.ensures ∙ c.if-not-is_whole_error.false)
 
 pub overflow_add-place : goal.overflow_add-place
 unfolding error_at
-overflow_add-place c = omega (arith, error_room _ _ (sym c.is_whole_error.ensures ∙ c.if-is_whole_error.true), c.error_length.ensures ∙ ap (λ (r : ErrorRecord). error_length r.kind) c.error_at-e.ensures)
-
-pub returns-then-is_whole_error : goal.returns-then-is_whole_error
-returns-then-is_whole_error c = error_got _ _ _ _ (sym c.is_whole_error.ensures ∙ c.if-is_whole_error.true) c.error_at-e.ensures c.error_length.ensures
+overflow_add-place c = omega (arith, error_room _ _ (sym c.is_whole_error.ensures ∙ c.if-not-is_whole_error.false), c.error_length.ensures ∙ ap (λ (r : ErrorRecord). error_length r.kind) c.error_at-e.ensures)
 
 pub returns : goal.returns
-returns c = error_stop _ _ _ (sym c.is_whole_error.ensures ∙ c.if-is_whole_error.false) c.no_record.ensures
+returns c = error_got _ _ _ _ (sym c.is_whole_error.ensures ∙ c.if-not-is_whole_error.false) c.error_at-e.ensures c.error_length.ensures

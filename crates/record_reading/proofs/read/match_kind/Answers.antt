@@ -1,26 +1,23 @@
-use mathlib.Core.Path.{sym, ◌∙◌}
+use Rattle.refusals.proofs.Answers.{passed_on}
 use Rattle.record_reading.proofs.Turns.{match_yes, match_no, match_unknown, match_stop}
 use Rattle.record_reading.proofs.Places.{whole_head}
 use Rattle.record_reading.specs.Reading.{kind_at}
 use native.Mathlib.Omega.{arith}
 use Rattle.record_reading.proofs.read.match_kind.Goals as goal
 
-pub returns-then-not-is_kind : goal.returns-then-not-is_kind
-returns-then-not-is_kind c = match_unknown _ _ _ _ (sym c.is_kind.ensures ∙ c.if-not-is_kind.true) c.no_kind.ensures
+pub returns-in_err-ask_kind : goal.returns-in_err-ask_kind
+returns-in_err-ask_kind c = rw (passed_on _ _ c.from_residual.ensures) (match_unknown _ _ _ _ c.in_err-ask_kind.ensures)
+
+pub returns-in_err-ask_record : goal.returns-in_err-ask_record
+returns-in_err-ask_record c = rw (passed_on _ _ c.from_residual-in_err-ask_record.ensures) (match_stop _ _ _ _ c.in_ok-ask_kind.ensures c.in_err-ask_record.ensures)
 
 pub bounds-s-at : goal.bounds-s-at
-bounds-s-at c = omega (arith, whole_head _ _ (sym c.is_whole.ensures ∙ c.if-is_whole.true))
+bounds-s-at c = omega (arith, whole_head _ _ c.in_ok-ask_record.ensures)
 
-pub after-place-requires : goal.after-place-requires
-after-place-requires c = (sym c.is_whole.ensures ∙ c.if-is_whole.true)
-
-pub returns-then-found-kind : goal.returns-then-found-kind
+pub returns-then-s-at : goal.returns-then-s-at
 unfolding kind_at
-returns-then-found-kind c = match_yes _ _ _ _ (sym c.is_kind.ensures ∙ c.if-not-is_kind.false) (sym c.is_whole.ensures ∙ c.if-is_whole.true) c.if-found-kind.true c.after-place.ensures
+returns-then-s-at c = match_yes _ _ _ _ c.in_ok-ask_kind.ensures c.in_ok-ask_record.ensures c.if-s-at.true c.after.ensures
 
-pub returns-then-is_whole : goal.returns-then-is_whole
+pub returns-else-s-at : goal.returns-else-s-at
 unfolding kind_at
-returns-then-is_whole c = match_no _ _ _ (sym c.is_kind.ensures ∙ c.if-not-is_kind.false) (sym c.is_whole.ensures ∙ c.if-is_whole.true) c.if-found-kind.false
-
-pub returns : goal.returns
-returns c = match_stop _ _ _ _ (sym c.is_kind.ensures ∙ c.if-not-is_kind.false) (sym c.is_whole.ensures ∙ c.if-is_whole.false) c.no_record.ensures
+returns-else-s-at c = match_no _ _ _ c.in_ok-ask_kind.ensures c.in_ok-ask_record.ensures c.if-s-at.false

@@ -1,15 +1,9 @@
-use mathlib.Core.Path.{sym, ◌∙◌}
+use Rattle.refusals.proofs.Answers.{passed_on}
 use Rattle.record_reading.proofs.Turns.{next_got, next_stop}
 use Rattle.record_reading.proofs.read.next_token.Goals as goal
 
-pub record_at-r-requires : goal.record_at-r-requires
-record_at-r-requires c = (sym c.is_whole.ensures ∙ c.if-is_whole.true)
-
-pub after-place-requires : goal.after-place-requires
-after-place-requires c = (sym c.is_whole.ensures ∙ c.if-is_whole.true)
-
-pub returns-then-is_whole : goal.returns-then-is_whole
-returns-then-is_whole c = next_got _ _ _ _ (sym c.is_whole.ensures ∙ c.if-is_whole.true) c.record_at-r.ensures c.after-place.ensures
+pub returns-in_err-ask_record : goal.returns-in_err-ask_record
+returns-in_err-ask_record c = rw (passed_on _ _ c.from_residual.ensures) (next_stop _ _ _ c.in_err-ask_record.ensures)
 
 pub returns : goal.returns
-returns c = next_stop _ _ _ (sym c.is_whole.ensures ∙ c.if-is_whole.false) c.no_record.ensures
+returns c = next_got _ _ _ _ c.in_ok-ask_record.ensures c.record_at.ensures c.after.ensures

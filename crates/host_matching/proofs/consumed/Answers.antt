@@ -1,0 +1,11 @@
+-- `consumed` meets its contract.
+use Rattle.refusals.proofs.Answers.{passed_on}
+use Rattle.host_matching.proofs.Unknown.{consume_unknown}
+use Rattle.host_matching.proofs.consumed.Goals as goal
+
+-- A kind over 125.
+pub returns-in_err-byte : goal.returns-in_err-byte
+returns-in_err-byte c = rw (passed_on _ _ c.from_residual.ensures) (consume_unknown _ _ _ _ c.in_err-byte.ensures)
+
+pub returns : goal.returns
+returns c = rw (c.in_ok-byte.ensures.0) at c.consume.ensures

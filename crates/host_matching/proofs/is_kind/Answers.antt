@@ -1,8 +1,0 @@
--- `is_kind` meets its contract.
-use mathlib.Core.Path.{refl}
-use Rattle.records.specs.Kinds.{is_kind}
-use Rattle.host_matching.proofs.is_kind.Goals as goal
-
-pub returns : goal.returns
-unfolding is_kind
-returns c = refl
