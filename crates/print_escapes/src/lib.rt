@@ -37,10 +37,7 @@ fn is_escaped(quote: u8, b: u8) -> bool
 fn is_word(b: u8) -> bool
     ensures { result ≡ is_word b }
 {
-    ((b'A' <= b) & (b <= b'Z'))
-        | ((b'a' <= b) & (b <= b'z'))
-        | ((b'0' <= b) & (b <= b'9'))
-        | (b == b'_')
+    b.is_ascii_alphanumeric() | (b == b'_')
 }
 
 // A lower-case hexadecimal digit.
