@@ -55,8 +55,7 @@ fn enter(text: &[u8], c: Cursor, texts: &mut [u8], errors: &mut [u8], fill: Fill
     let within = c.within;
     match within {
         Within::Outside => begun(p, fill.errors),
-        Within::Inside(offset, line, col) => {
-            let start = Position { offset, line, col };
+        Within::Inside(start) => {
             let x = pieces::piece(
                 text,
                 p,
