@@ -1,6 +1,7 @@
 -- `print_tokens::put_raw` meets its contract. Assumes nothing.
 use mathlib.Core.Path.{◌≡◌, sym, subst}
 use mathlib.Core.Bool.{true}
+use Prim.Native.Nat.{◌+◌}
 use native.Mathlib.Omega.{arith}
 use Rattle.characters.specs.Utf8.{chars_at}
 use Rattle.spans.specs.declared.Position.{Position}
@@ -31,6 +32,12 @@ pub overflow_add-end : goal.overflow_add-end
 overflow_add-end c =
     let r = raw_placed c.args.text.now c.args.from _ _ _ _ _ _ c.at_place.ensures c.raw-m.ensures in
     omega (arith, raw_inside c.args.text.now c.args.from c.requires.within c.requires.from_value _ _ _ _ _ r, c.requires.within.size)
+
+pub slice_bounds-put_escapes-end : goal.slice_bounds-put_escapes-end
+slice_bounds-put_escapes-end c =
+    let r = raw_placed c.args.text.now c.args.from _ _ _ _ _ _ c.at_place.ensures c.raw-m.ensures in
+    let n = raw_inside c.args.text.now c.args.from c.requires.within c.requires.from_value _ _ _ _ _ r in
+    omega (arith, n)
 
 pub put_escapes-place-requires : goal.put_escapes-place-requires
 put_escapes-place-requires c =
