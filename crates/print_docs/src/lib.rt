@@ -19,15 +19,6 @@ ghost use Rattle.print_docs.specs.Docs.{LinePart};
 use text_parts::lines::Cursor;
 use text_parts::{Part, lines};
 
-// The bytes of what is written before a doc text of one line; before a longer one, before each of its next lines, and behind it.
-const SLASHES_BYTES: usize = 4;
-
-const OPENING_BYTES: usize = 6;
-
-const STAR_BYTES: usize = 3;
-
-const CLOSING_BYTES: usize = 4;
-
 // A doc text of one line, the bytes part[from..to].
 fn put_short(part: &[u8], from: usize, to: usize, out: &mut [u8], at: usize) -> usize
     requires from_le_to { from ≤ to }
@@ -37,8 +28,8 @@ fn put_short(part: &[u8], from: usize, to: usize, out: &mut [u8], at: usize) -> 
     requires at_bound { at ≤ MOST }
     ensures { Put out.old out.new at (doc (slice from to part.now) ++ (LF ∷ [])) result }
 {
-    let front = output::put_part(b"/// ", 0, SLASHES_BYTES, out, at);
-    let place = output::put_part(part, from, to, out, front);
+    let front = output::put_bytes(b"/// ", out, at);
+    let place = output::put_bytes(&part[from..to], out, front);
     output::put_byte(out, place, b'\n')
 }
 
@@ -50,8 +41,8 @@ fn put_part(part: &[u8], x: Part, out: &mut [u8], at: usize) -> usize
     ensures { Put out.old out.new at (starred (part_bytes part.now x)) result }
 {
     match x {
-        Part::Bytes(from, to) => output::put_part(part, from, to, out, at),
-        Part::Char(_) => output::put_part(b"\n* ", 0, STAR_BYTES, out, at),
+        Part::Bytes(from, to) => output::put_bytes(&part[from..to], out, at),
+        Part::Char(_) => output::put_bytes(b"\n* ", out, at),
         Part::Nothing => at,
     }
 }
@@ -82,9 +73,9 @@ fn put_long(part: &[u8], c: Cursor, out: &mut [u8], at: usize) -> usize
     requires at_bound { at ≤ MOST / 2 }
     ensures { Put out.old out.new at (doc (text_left part.now c) ++ (LF ∷ [])) result }
 {
-    let front = output::put_part(b"/**\n* ", 0, OPENING_BYTES, out, at);
+    let front = output::put_bytes(b"/**\n* ", out, at);
     let place = put_lines(part, c, out, front);
-    output::put_part(b"\n*/\n", 0, CLOSING_BYTES, out, place)
+    output::put_bytes(b"\n*/\n", out, place)
 }
 
 // The doc comment of three slashes, which has no line feed in it.

@@ -3,11 +3,11 @@
 use mathlib.Core.Path.{◌≡◌, refl, sym, ◌∙◌, ap}
 use mathlib.Core.Bool.{Bool, true, false, ◌&&◌}
 use mathlib.Core.List.{List, [], ◌∷◌, ◌++◌, append-nil}
-use Prim.Native.Nat.{ℕ, ◌+◌, ◌≤◌, ◌<◌}
+use Prim.Native.Nat.{ℕ, ◌+◌, ◌-◌, ◌≤◌, ◌<◌}
 use native.Mathlib.Numerals.{add-one}
 use native.Mathlib.Omega.{arith}
-use lib.ListN.{length, get_or}
-use lib.Seq.{slice, slice-cons}
+use lib.ListN.{length, get_or, take, drop}
+use Rattle.std.proofs.lemmas.Slice.{first_rest}
 use Rattle.characters.specs.Utf8.{encode_char}
 use Rattle.characters.proofs.Widths.{encode_one}
 use Rattle.rules.specs.Text.{Char, Text, ch, LF}
@@ -36,26 +36,25 @@ literal_plain nm c t e = rw e
 tested : (nm x y b : Bool) → x ≡ y → (nm && x) ≡ b → (nm && y) ≡ b
 tested nm x y b e f = rw e at f
 
--- A part, written from its first byte on.
-module _ (s : List ℕ) (from to : ℕ) (nm x : Bool) (h : from < to) (k : to ≤ length s) (e : x ≡ is_word (get_or s from 0)) where
-  first : slice from to s ≡ get_or s from 0 ∷ slice (from + 1) to s
-  first = slice-cons from to s 0 h k ∙ ap (λ (n : ℕ). get_or s from 0 ∷ slice n to s) (sym (add-one from))
+-- A text, written from its first byte on.
+module _ (s : List ℕ) (nm x : Bool) (h : 0 < length s) (e : x ≡ is_word (get_or s 0 0)) where
+  first : s ≡ get_or s 0 0 ∷ take (length s - 1) (drop 1 s)
+  first = first_rest s 0 h
 
-  pub word_put : (a b c : List ℕ) (at m r : ℕ) → (nm && x) ≡ true → Put a b at (unicode (get_or s from 0)) m
-      → Put b c m (escapes (ch "\"") (slice (from + 1) to s)) r → Put a c at (literal nm (slice from to s)) r
+  pub word_put : (a b c : List ℕ) (at m r : ℕ) → (nm && x) ≡ true → Put a b at (unicode (get_or s 0 0)) m
+      → Put b c m (escapes (ch "\"") (take (length s - 1) (drop 1 s))) r → Put a c at (literal nm s) r
   word_put a b c at m r f p q =
-      let t = slice (from + 1) to s in
-      put_same a c at r (literal nm (slice from to s)) (unicode (get_or s from 0) ++ escapes (ch "\"") t)
-      (ap (literal nm) first ∙ literal_word_lem nm (get_or s from 0) t (tested nm x (is_word (get_or s from 0)) true e f))
-      (put_then a b c at m r (unicode (get_or s from 0)) (escapes (ch "\"") t) p q)
+      let t = take (length s - 1) (drop 1 s) in
+      put_same a c at r (literal nm s) (unicode (get_or s 0 0) ++ escapes (ch "\"") t)
+      (ap (literal nm) first ∙ literal_word_lem nm (get_or s 0 0) t (tested nm x (is_word (get_or s 0 0)) true e f))
+      (put_then a b c at m r (unicode (get_or s 0 0)) (escapes (ch "\"") t) p q)
 
-  pub plain_put : (a b : List ℕ) (at r : ℕ) → (nm && x) ≡ false → Put a b at (escapes (ch "\"") (slice from to s)) r
-      → Put a b at (literal nm (slice from to s)) r
+  pub plain_put : (a b : List ℕ) (at r : ℕ) → (nm && x) ≡ false → Put a b at (escapes (ch "\"") s) r → Put a b at (literal nm s) r
   plain_put a b at r f p =
-      let t = slice (from + 1) to s in
-      put_same a b at r (literal nm (slice from to s)) (escapes (ch "\"") (slice from to s))
+      let t = take (length s - 1) (drop 1 s) in
+      put_same a b at r (literal nm s) (escapes (ch "\"") s)
       (ap (literal nm) first
-      ∙ (literal_plain nm (get_or s from 0) t (tested nm x (is_word (get_or s from 0)) false e f) ∙ ap (escapes (ch "\"")) (sym first)))
+      ∙ (literal_plain nm (get_or s 0 0) t (tested nm x (is_word (get_or s 0 0)) false e f) ∙ ap (escapes (ch "\"")) (sym first)))
       p
 
 -- ── A character ──

@@ -6,10 +6,10 @@ use Prim.Native.Nat.{ℕ, zero, suc, ◌+◌, ◌-◌, ◌*◌, ◌≤◌, ◌<�
 use native.Mathlib.Nat.{add-zero}
 use native.Mathlib.Numerals.{add-one}
 use native.Mathlib.Omega.{arith}
-use lib.ListN.{length, get_or, take}
-use Rattle.std.proofs.lemmas.List.{length-take-le, get_or-take}
+use lib.ListN.{length, get_or, take, drop}
+use Rattle.std.proofs.lemmas.Slice.{between_is}
 use Rattle.runs.specs.Runs.{RunTo}
-use lib.Seq.{slice, slice_empty, slice-cons, length-slice}
+use lib.Seq.{take_all, slice, slice_empty, slice-cons, length-slice}
 use Rattle.rules.specs.Text.{Char}
 use Rattle.output.specs.Writing.{Put}
 use Rattle.output.proofs.Buffers.{slice_split, Writing, write_start, write_more, write_end}
@@ -60,33 +60,29 @@ not_of : (x b : Bool) → b ≡ not x → x ≡ not b
 not_of true b e = ap not (sym e)
 not_of false b e = ap not (sym e)
 
--- A walk to `at` past the bytes before `to` that pass, where its test passes those that are not escaped.
-module _ (q : Char) (s : List ℕ) (from to at : ℕ) (h : to ≤ length s) {A : ℕ → Bool → Type 0}
-    (tells : (i : ℕ) (b : Bool) → A (get_or (take to s) i 0) b → b ≡ not (is_escaped q (get_or (take to s) i 0))) (r : RunTo A (take to s) from at) where
-  inside : at ≤ to
-  inside = omega (arith, r.inside, length-take-le to s h)
+-- A walk to `at` past the bytes that pass, where its test passes those that are not escaped.
+module _ (q : Char) (s : List ℕ) (from at : ℕ) {A : ℕ → Bool → Type 0}
+    (tells : (i : ℕ) (b : Bool) → A (get_or s i 0) b → b ≡ not (is_escaped q (get_or s i 0))) (r : RunTo A s from at) where
+  told : (i : ℕ) (b : Bool) → A (get_or s i 0) b → is_escaped q (get_or s i 0) ≡ not b
+  told i b a = not_of (is_escaped q (get_or s i 0)) b (tells i b a)
 
-  told : (i : ℕ) (b : Bool) → i < to → A (get_or (take to s) i 0) b → is_escaped q (get_or s i 0) ≡ not b
-  told i b l a =
-      ap (is_escaped q) (sym (get_or-take to s i 0 l)) ∙ (not_of (is_escaped q (get_or (take to s) i 0)) b (tells i b a))
-
-  passes : (n : ℕ) → from + n ≤ at → Passing q s from to (from + n)
-  passes zero l = subst (Passing q s from to) (sym (add-zero from)) (pass_start q s from to (omega (arith, inside, r.forth)))
+  passes : (n : ℕ) → from + n ≤ at → Passing q s from (length s) (from + n)
+  passes zero l = subst (Passing q s from (length s)) (sym (add-zero from)) (pass_start q s from (length s) (omega (arith, r.inside, r.forth)))
   passes (suc n) l =
       let e : from + n + 1 ≡ from + suc n = omega arith in
-      let u : from + n < to = omega (arith, inside) in
-      subst (Passing q s from to) e
-      (pass_more q s from to (from + n) (passes n (omega arith)) u h (told (from + n) true u (r.passed (from + n) (omega arith) (omega arith))))
+      let u : from + n < length s = omega (arith, r.inside) in
+      subst (Passing q s from (length s)) e
+      (pass_more q s from (length s) (from + n) (passes n (omega arith)) u (omega arith) (told (from + n) true (r.passed (from + n) (omega arith) (omega arith))))
 
-  pub run_bare : PastBare q s from to at
+  pub run_bare : PastBare q s from (length s) at
   run_bare =
       let e : from + (at - from) ≡ at = omega (arith, r.forth) in
-      let p = subst (Passing q s from to) e (passes (at - from) (omega arith)) in
+      let p = subst (Passing q s from (length s)) e (passes (at - from) (omega arith)) in
       record {
         forth = p.forth;
         inside = p.inside;
         bare = p.bare;
-        stops = λ l. told at false l (r.stop (omega (arith, length-take-le to s h)));
+        stops = λ l. told at false (r.stop l);
       }
 
 -- ── The runs of a part ──
@@ -148,3 +144,12 @@ module _ (q : Char) (s old b : List ℕ) (from to at next p : ℕ) (w : Escaping
     where
       none : escapes q (slice next to s) ≡ []
       none = ap (λ (n : ℕ). escapes q (slice n to s)) h ∙ (ap (escapes q) (slice_empty to s) ∙ (unfold escapes in refl))
+
+-- All of a text is the part from its start to its end.
+pub escapes_whole : (q : Char) (s : List ℕ) {a b : List ℕ} {at r : ℕ} → Put a b at (escapes q (slice 0 (length s) s)) r → Put a b at (escapes q s) r
+escapes_whole q s p = rw (← take_all (length s) s (omega arith)) p
+
+-- The part of a text that the code lends is the slice that a rule names.
+pub escapes_slice : (q : Char) (s : List ℕ) (from to : ℕ) {a b : List ℕ} {at r : ℕ} → Put a b at (escapes q (take (to - from) (drop from s))) r
+    → Put a b at (escapes q (slice from to s)) r
+escapes_slice q s from to p = rw (← between_is s from to) p

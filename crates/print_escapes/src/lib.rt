@@ -16,13 +16,6 @@ const RADIX: u8 = 16;
 
 const LAST_DECIMAL: u8 = 9;
 
-// The bytes of `\u00`, of `\n` and of `\u0024`.
-const UNICODE_FRONT_BYTES: usize = 4;
-
-const LINE_FEED_BYTES: usize = 2;
-
-const DOLLAR_BYTES: usize = 6;
-
 // What is added to a digit's value from 10 on: `a` is 10.
 const LOWER_BASE: u8 = b'a' - 10;
 
@@ -56,7 +49,7 @@ fn put_unicode(b: u8, out: &mut [u8], at: usize) -> usize
     requires { at ≤ MOST }
     ensures { Put out.old out.new at (unicode b) result }
 {
-    let front = output::put_part(b"\\u00", 0, UNICODE_FRONT_BYTES, out, at);
+    let front = output::put_bytes(b"\\u00", out, at);
     let high = output::put_byte(out, front, hex_digit(b / RADIX));
     output::put_byte(out, high, hex_digit(b % RADIX))
 }
@@ -71,44 +64,34 @@ fn put_escaped(quote: u8, b: u8, out: &mut [u8], at: usize) -> usize
         return output::put_byte(out, place, b);
     }
     if b == b'\n' {
-        return output::put_part(b"\\n", 0, LINE_FEED_BYTES, out, at);
+        return output::put_bytes(b"\\n", out, at);
     }
     if (b == b'$') & (quote == b'"') {
-        return output::put_part(b"\\u0024", 0, DOLLAR_BYTES, out, at);
+        return output::put_bytes(b"\\u0024", out, at);
     }
     output::put_byte(out, at, b)
 }
 
 // The end of the bytes from a place on that are not escaped.
-fn past_bare(quote: u8, text: &[u8], from: usize, to: usize) -> usize
-    requires from_le_to { from ≤ to }
-    requires to_in_bounds { to ≤ length text.now }
-    ensures { PastBare quote text.now from to result }
+fn past_bare(quote: u8, text: &[u8], from: usize) -> usize
+    requires { from ≤ length text.now }
+    ensures { PastBare quote text.now from (length text.now) result }
 {
-    runs::past(&text[..to], from, |b| !is_escaped(quote, b))
+    runs::past(text, from, |b| !is_escaped(quote, b))
 }
 
-// The bytes text[from..to] between quotes.
-pub fn put_escapes(
-    quote: u8,
-    text: &[u8],
-    from: usize,
-    to: usize,
-    out: &mut [u8],
-    at: usize,
-) -> usize
-    requires from_le_to { from ≤ to }
-    requires to_in_bounds { to ≤ length text.now }
-    requires to_bound { to ≤ LIMIT }
+// A text between quotes.
+pub fn put_escapes(quote: u8, text: &[u8], out: &mut [u8], at: usize) -> usize
+    requires text_bound { length text.now ≤ LIMIT }
     requires at_bound { at ≤ MOST + MOST / 2 }
-    ensures { Put out.old out.new at (escapes quote (slice from to text.now)) result }
+    ensures { Put out.old out.new at (escapes quote text.now) result }
 {
-    let mut next = from;
+    let mut next = 0;
     let mut place = at;
     loop {
-        let stop = past_bare(quote, text, next, to);
-        place = output::put_part(text, next, stop, out, place);
-        if stop == to {
+        let stop = past_bare(quote, text, next);
+        place = output::put_bytes(&text[next..stop], out, place);
+        if stop == text.len() {
             return place;
         }
         place = put_escaped(quote, text[stop], out, place);
@@ -116,27 +99,19 @@ pub fn put_escapes(
     }
 }
 
-// The bytes text[from..to] of a string; `named` says that a `$name` stands right before them.
-pub fn put_literal(
-    text: &[u8],
-    from: usize,
-    to: usize,
-    named: bool,
-    out: &mut [u8],
-    at: usize,
-) -> usize
-    requires from_lt_to { from < to }
-    requires to_in_bounds { to ≤ length text.now }
-    requires to_bound { to ≤ LIMIT }
+// A text of a string; `named` says that a `$name` stands right before it.
+pub fn put_literal(text: &[u8], named: bool, out: &mut [u8], at: usize) -> usize
+    requires text_some { 0 < length text.now }
+    requires text_bound { length text.now ≤ LIMIT }
     requires at_bound { at ≤ MOST }
-    ensures { Put out.old out.new at (literal named (slice from to text.now)) result }
+    ensures { Put out.old out.new at (literal named text.now) result }
 {
-    let first = text[from];
+    let first = text[0];
     if named & is_word(first) {
         let place = put_unicode(first, out, at);
-        return put_escapes(b'"', text, from + 1, to, out, place);
+        return put_escapes(b'"', &text[1..], out, place);
     }
-    put_escapes(b'"', text, from, to, out, at)
+    put_escapes(b'"', text, out, at)
 }
 
 // A character of a string; `named` says that a `$name` stands right before it.

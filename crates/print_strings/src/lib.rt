@@ -19,9 +19,6 @@ ghost use Rattle.print_strings.specs.Strings.{emitted_part, named_behind, RowAt,
 use print_places::Written;
 use text_parts::{Flawed, Part, units};
 
-// The bytes of `\uD800`.
-const PARTING_BYTES: usize = 6;
-
 // What was written inside a string: the place behind it, the place behind its bytes, and whether a `$name` stands right before what
 // follows.
 #[derive(Clone, Copy)]
@@ -49,9 +46,9 @@ fn put_bytes(
     ensures { Put out.old out.new at (literal named (slice from to s.now)) result }
 {
     if plain {
-        return output::put_part(s, from, to, out, at);
+        return output::put_bytes(&s[from..to], out, at);
     }
-    print_escapes::put_literal(s, from, to, named, out, at)
+    print_escapes::put_literal(&s[from..to], named, out, at)
 }
 
 // One part of a literal; `named` says that a `$name` stands right before it, `plain` that it is written as it stands.
@@ -109,7 +106,7 @@ fn put_parting(named: bool, out: &mut [u8], at: usize) -> usize
     ensures { Put out.old out.new at (parting named) result }
 {
     if named {
-        return output::put_part(b"\\uD800", 0, PARTING_BYTES, out, at);
+        return output::put_bytes(b"\\uD800", out, at);
     }
     at
 }
@@ -134,7 +131,7 @@ fn put_interpolation(
     let q = c.at;
     let to = q.offset;
     let place = put_parting(named, out, at);
-    let end = output::put_part(s, from, to, out, place);
+    let end = output::put_bytes(&s[from..to], out, place);
     let braces = bridge::is_at(s, from + 1, b'{');
     Ok(Row {
         at: to,

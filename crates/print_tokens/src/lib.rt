@@ -19,12 +19,8 @@ ghost use Rattle.print_places.specs.Places as places;
 use print_places::Written;
 use text_parts::Flawed;
 
-// The bytes of the longest character, of `'\uD800'` and of `${}`.
+// The bytes of the longest character.
 const CHARACTER_BYTES: usize = 4;
-
-const EMPTY_BYTES: usize = 8;
-
-const BRACES_BYTES: usize = 3;
 
 // The quotes in front of a raw string's text.
 const QUOTES: usize = 3;
@@ -46,7 +42,7 @@ pub fn put_raw(text: &[u8], from: usize, out: &mut [u8], at: usize) -> Result<Wr
     let begin = from + QUOTES;
     let end = begin + m.texts;
     let front = output::put_byte(out, at, b'"');
-    let place = print_escapes::put_escapes(b'"', text, begin, end, out, front);
+    let place = print_escapes::put_escapes(b'"', &text[begin..end], out, front);
     Ok(Written {
         at: q.offset,
         out: output::put_byte(out, place, b'"'),
@@ -61,10 +57,10 @@ fn put_made(made: &[u8], n: usize, out: &mut [u8], at: usize) -> usize
     ensures { Put out.old out.new at (character (slice 0 n made.now)) result }
 {
     if n == 0 {
-        return output::put_part(b"'\\uD800'", 0, EMPTY_BYTES, out, at);
+        return output::put_bytes(b"'\\uD800'", out, at);
     }
     let front = output::put_byte(out, at, b'\'');
-    let place = print_escapes::put_escapes(b'\'', made, 0, n, out, front);
+    let place = print_escapes::put_escapes(b'\'', &made[..n], out, front);
     output::put_byte(out, place, b'\'')
 }
 
@@ -100,7 +96,7 @@ pub fn put_braces(text: &[u8], from: usize, out: &mut [u8], at: usize) -> Writte
     let q = m.at;
     Written {
         at: q.offset,
-        out: output::put_part(b"${}", 0, BRACES_BYTES, out, at),
+        out: output::put_bytes(b"${}", out, at),
     }
 }
 

@@ -42,7 +42,7 @@ fn put_text(text: &[u8], from: usize, to: usize, out: &mut [u8], at: usize) -> u
     if to - from == 1 {
         return output::put_byte(out, at, text[from]);
     }
-    output::put_part(text, from, to, out, at)
+    output::put_bytes(&text[from..to], out, at)
 }
 
 // The word at a place.

@@ -8,14 +8,14 @@ use Rattle.print_docs.proofs.put_long.Goals as goal
 
 pub put_lines-place-requires : goal.put_lines-place-requires
 put_lines-place-requires c =
-    record { part_len_bound = c.requires.part_len_bound; good_cursor = c.requires.good_cursor; c_bound = c.requires.c_bound; at_bound = omega (arith, c.put_part-front.ensures.place, c.requires.at_bound) }
+    record { part_len_bound = c.requires.part_len_bound; good_cursor = c.requires.good_cursor; c_bound = c.requires.c_bound; at_bound = omega (arith, c.put_bytes-front.ensures.place, c.requires.at_bound) }
 
-pub put_part-requires : goal.put_part-requires
-put_part-requires c =
+pub put_bytes-requires : goal.put_bytes-requires
+put_bytes-requires c =
     let s = starred_small (text_left c.args.part.now c.args.c) in
-    record { from_le_to = search rules; to_in_bounds = search rules; to_bound = search rules; at_bound = omega (arith, c.put_lines-place.ensures.place, c.put_part-front.ensures.place, s, c.requires.c_bound, c.requires.at_bound) }
+    record { part_bound = search rules; at_bound = omega (arith, c.put_lines-place.ensures.place, c.put_bytes-front.ensures.place, s, c.requires.c_bound, c.requires.at_bound) }
 
 pub returns : goal.returns
 returns c =
-    long_put (text_left c.args.part.now c.args.c) _ _ _ _ _ _ _ _ c.requires.c_value c.put_part-front.ensures
-    c.put_lines-place.ensures c.put_part.ensures
+    long_put (text_left c.args.part.now c.args.c) _ _ _ _ _ _ _ _ c.requires.c_value c.put_bytes-front.ensures
+    c.put_lines-place.ensures c.put_bytes.ensures

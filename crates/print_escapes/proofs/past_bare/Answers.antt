@@ -4,4 +4,4 @@ use Rattle.print_escapes.proofs.Walks.{run_bare}
 use Rattle.print_escapes.proofs.past_bare.Goals as goal
 
 pub returns : goal.returns
-returns c = run_bare c.args.quote _ _ _ _ c.requires.to_in_bounds (λ i b h. search rules) c.past.ensures
+returns c = run_bare c.args.quote _ _ _ (λ i b h. search rules) c.past.ensures

@@ -8,11 +8,11 @@ returns-then-b-quote c =
 
 pub returns-then-b-eq10 : goal.returns-then-b-eq10
 returns-then-b-eq10 c =
-    feed_put _ _ _ _ _ _ c.if-b-quote.false c.if-b-eq10.true c.put_part.ensures
+    feed_put _ _ _ _ _ _ c.if-b-quote.false c.if-b-eq10.true c.put_bytes.ensures
 
 pub returns-then-b-quote-2 : goal.returns-then-b-quote-2
 returns-then-b-quote-2 c =
-    dollar_put _ _ _ _ _ _ c.if-b-quote.false c.if-b-eq10.false c.if-b-quote-2.true c.put_part-then-b-quote-2.ensures
+    dollar_put _ _ _ _ _ _ c.if-b-quote.false c.if-b-eq10.false c.if-b-quote-2.true c.put_bytes-then-b-quote-2.ensures
 
 pub returns : goal.returns
 returns c =

@@ -4,4 +4,4 @@ use Rattle.print_escapes.proofs.put_unicode.Goals as goal
 
 pub returns : goal.returns
 returns c =
-    unicode_put _ _ _ _ _ _ _ _ _ _ _ c.hex_digit.ensures c.hex_digit-2.ensures c.put_part-front.ensures c.put_byte-high.ensures c.put_byte.ensures
+    unicode_put _ _ _ _ _ _ _ _ _ _ _ c.hex_digit.ensures c.hex_digit-2.ensures c.put_bytes-front.ensures c.put_byte-high.ensures c.put_byte.ensures

@@ -6,7 +6,7 @@ use Rattle.print_strings.proofs.put_parting.Goals as goal
 pub returns-then-named : goal.returns-then-named
 unfolding parting
 returns-then-named c =
-    rw c.if-named.true c.put_part.ensures
+    rw c.if-named.true c.put_bytes.ensures
 
 pub returns : goal.returns
 unfolding parting

@@ -18,4 +18,4 @@ braces-m-requires c =
 pub returns : goal.returns
 returns c =
     let b = braces_placed c.args.text.now c.args.from _ _ _ _ c.at_place.ensures c.braces-m.ensures in
-    braces_emits c.args.text.now c.args.from _ _ _ c.requires.from_value b _ _ _ _ c.put_part.ensures
+    braces_emits c.args.text.now c.args.from _ _ _ c.requires.from_value b _ _ _ _ c.put_bytes.ensures

@@ -8,7 +8,7 @@ use Rattle.print_tokens.proofs.put_made.Goals as goal
 
 pub returns-then-n-eq0 : goal.returns-then-n-eq0
 returns-then-n-eq0 c =
-    none_put c.args.made.now c.args.n _ _ _ _ c.if-n-eq0.true c.put_part.ensures
+    none_put c.args.made.now c.args.n _ _ _ _ c.if-n-eq0.true c.put_bytes.ensures
 
 pub returns : goal.returns
 returns c =

@@ -1,12 +1,15 @@
 -- `print_tokens::put_raw` meets its contract. Assumes nothing.
 use mathlib.Core.Path.{◌≡◌, sym, subst}
 use mathlib.Core.Bool.{true}
+use Prim.Native.Nat.{◌+◌}
 use native.Mathlib.Omega.{arith}
 use Rattle.characters.specs.Utf8.{chars_at}
 use Rattle.spans.specs.declared.Position.{Position}
 use Rattle.rules.specs.Scan.{starts_with}
 use Rattle.bridge.specs.Bridge.{Within}
 use Rattle.walks.specs.Walks.{quotes}
+use Rattle.output.proofs.Buffers.{part_bound}
+use Rattle.print_escapes.proofs.Walks.{escapes_slice}
 use Rattle.print_tokens.proofs.Faults.{token_wrong}
 use Rattle.print_tokens.proofs.Quoted.{raw_placed, raw_inside, raw_small, raw_emits}
 use Rattle.print_tokens.proofs.put_raw.Goals as goal
@@ -30,21 +33,27 @@ overflow_add-end c =
     let r = raw_placed c.args.text.now c.args.from _ _ _ _ _ _ c.at_place.ensures c.raw-m.ensures in
     omega (arith, raw_inside c.args.text.now c.args.from c.requires.within c.requires.from_value _ _ _ _ _ r, c.requires.within.size)
 
+pub slice_bounds-put_escapes-end : goal.slice_bounds-put_escapes-end
+slice_bounds-put_escapes-end c =
+    let r = raw_placed c.args.text.now c.args.from _ _ _ _ _ _ c.at_place.ensures c.raw-m.ensures in
+    let n = raw_inside c.args.text.now c.args.from c.requires.within c.requires.from_value _ _ _ _ _ r in
+    omega (arith, n)
+
 pub put_escapes-place-requires : goal.put_escapes-place-requires
 put_escapes-place-requires c =
     let r = raw_placed c.args.text.now c.args.from _ _ _ _ _ _ c.at_place.ensures c.raw-m.ensures in
     let n = raw_inside c.args.text.now c.args.from c.requires.within c.requires.from_value _ _ _ _ _ r in
-    record { from_le_to = omega arith; to_in_bounds = omega (arith, n); to_bound = omega (arith, n, c.requires.within.size); at_bound = omega (arith, c.put_byte-front.ensures.place, c.requires.at_bound) }
+    record { text_bound = part_bound c.args.text.now (c.args.from + 3) (c.args.from + 3 + c.raw-m.result.texts) _ (omega (arith, n, c.requires.within.size)); at_bound = omega (arith, c.put_byte-front.ensures.place, c.requires.at_bound) }
 
 pub returns : goal.returns
 returns c =
     let r = raw_placed c.args.text.now c.args.from _ _ _ _ _ _ c.at_place.ensures c.raw-m.ensures in
-    raw_emits c.args.text.now c.args.from c.requires.within c.requires.from_value _ _ _ _ _ r _ _ _ _ _ _ c.put_byte-front.ensures c.put_escapes-place.ensures _ _ c.if-m-gt0.false
+    raw_emits c.args.text.now c.args.from c.requires.within c.requires.from_value _ _ _ _ _ r _ _ _ _ _ _ c.put_byte-front.ensures (escapes_slice 34 c.args.text.now (c.args.from + 3) (c.args.from + 3 + c.raw-m.result.texts) c.put_escapes-place.ensures) _ _ c.if-m-gt0.false
     c.put_byte.ensures
 
 pub put_byte-requires : goal.put_byte-requires
 put_byte-requires c =
     let r = raw_placed c.args.text.now c.args.from _ _ _ _ _ _ c.at_place.ensures c.raw-m.ensures in
     let n = raw_inside c.args.text.now c.args.from c.requires.within c.requires.from_value _ _ _ _ _ r in
-    let y = raw_small c.args.text.now c.args.from c.requires.within c.requires.from_value _ _ _ _ _ r _ _ _ _ _ _ c.put_byte-front.ensures c.put_escapes-place.ensures in
+    let y = raw_small c.args.text.now c.args.from c.requires.within c.requires.from_value _ _ _ _ _ r _ _ _ _ _ _ c.put_byte-front.ensures (escapes_slice 34 c.args.text.now (c.args.from + 3) (c.args.from + 3 + c.raw-m.result.texts) c.put_escapes-place.ensures) in
     omega (arith, n, y, c.requires.within.size, c.requires.at_bound)
