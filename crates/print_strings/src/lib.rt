@@ -89,7 +89,10 @@ fn put_units(s: &[u8], from: usize, named: bool, out: &mut [u8], at: usize) -> R
     let mut c = from;
     let mut place = at;
     let mut name = named;
-    while let Some(n) = units::next(s, c)? {
+    while let Some(n) = units::next(s, c) {
+        if n.bad {
+            return Err(Flawed);
+        }
         let part = n.part;
         let plain = n.plain & !name;
         place = put_part(s, part, plain, name, out, place);
