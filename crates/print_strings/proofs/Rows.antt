@@ -29,7 +29,7 @@ use Rattle.print_places.specs.Places.{no_errors}
 use Rattle.text_parts.specs.Parts.{part_bytes, PartWithin}
 use Rattle.cursor.proofs.Pieces.{empty_nil}
 use Rattle.text_parts.specs.Units.{GoesOn, NextAt}
-use Rattle.text_parts.specs.declared.Flawed.{Flawed}
+use Rattle.print_places.specs.declared.Flawed.{Flawed}
 use Rattle.text_parts.specs.declared.Part.{Part}
 use Rattle.text_parts.specs.declared.Part.TheVariants as part
 use Rattle.text_parts.specs.declared.units.Step.{Step}

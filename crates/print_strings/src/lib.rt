@@ -16,8 +16,8 @@ ghost use Rattle.print_places.specs.Places as places;
 ghost use Rattle.text_parts.specs.Parts.{part_bytes, PartWithin};
 ghost use Rattle.print_strings.specs.Strings.{emitted_part, named_behind, RowAt, InterpolationAt};
 
-use print_places::Written;
-use text_parts::{Flawed, Part, units};
+use print_places::{Flawed, Written};
+use text_parts::{Part, units};
 
 // The bytes of `\uD800`.
 const PARTING_BYTES: usize = 6;

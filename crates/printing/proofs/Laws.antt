@@ -16,7 +16,7 @@ use Rattle.questions.specs.declared.Asked.TheVariants.{Yes, No}
 use Rattle.questions.specs.Questions.{ask_text}
 use Rattle.prints.specs.Print.{print_bytes}
 use Rattle.first_error.specs.First.{first_start}
-use Rattle.text_parts.specs.declared.Flawed.{Flawed}
+use Rattle.print_places.specs.declared.Flawed.{Flawed}
 use Rattle.print_loop.proofs.Outcomes.{walked_bad, walked_print}
 use Rattle.printing.specs.Passes.{WalkedFront}
 use Rattle.printing.specs.declared.Answer.TheVariants.{Done, Refused}

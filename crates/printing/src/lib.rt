@@ -9,7 +9,7 @@ ghost use Rattle.printing.specs.Printing.{Printed};
 use first_error::first_start;
 use print_loop::write;
 use questions::{Asked, ask_text};
-use text_parts::Flawed;
+use print_places::Flawed;
 
 // The numbers of the questions that printing adds, as include/aura_words.h names them.
 pub const REFUSED_MISTAKE: u64 = 11;
