@@ -7,7 +7,7 @@ use Prim.Native.Nat.{ℕ}
 use Rattle.rules.specs.Script.{script_errors}
 use Rattle.output.specs.Writing.{Put}
 use Rattle.prints.specs.Print.{print_bytes}
-use Rattle.text_parts.specs.declared.Flawed.{Flawed}
+use Rattle.print_places.specs.declared.Flawed.{Flawed}
 use Rattle.print_places.specs.Places.{no_errors}
 use Rattle.print_loop.specs.Loops.{WalkedAt}
 

@@ -19,7 +19,7 @@ use Rattle.prints.specs.Print.{print_bytes}
 use Rattle.prints.specs.Records.{quote_at}
 use Rattle.prints.specs.Writing.{outside, write_tokens}
 use Rattle.prints.proofs.Stepwise.{print_tokens}
-use Rattle.text_parts.specs.declared.Flawed.{Flawed}
+use Rattle.print_places.specs.declared.Flawed.{Flawed}
 use Rattle.print_places.specs.Places.{still, still_of, no_errors, right_from}
 use Rattle.print_places.specs.declared.Written.{Written}
 use Rattle.print_loop.specs.Loops.{FRONT, Goes, Ends, TurnAt, WalkedAt}

@@ -8,7 +8,7 @@ use Rattle.skipping.specs.Skips.{is_skipped}
 use Rattle.output.specs.Writing.{Put}
 use Rattle.prints.specs.Print.{print_bytes}
 use Rattle.prints.specs.Writing.{outside}
-use Rattle.text_parts.specs.declared.Flawed.{Flawed}
+use Rattle.print_places.specs.declared.Flawed.{Flawed}
 use Rattle.print_places.specs.Places.{still, no_errors, right_from}
 use Rattle.print_places.specs.declared.Written.{Written}
 

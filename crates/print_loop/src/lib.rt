@@ -10,8 +10,7 @@ ghost use Rattle.print_places.specs.Places as places;
 ghost use Rattle.print_loop.specs.Loops.{FRONT, Nothing, EndAt, TurnAt, WalkedAt};
 
 use marks::Marks;
-use print_places::Written;
-use text_parts::Flawed;
+use print_places::{Flawed, Written};
 
 // The space that is due.
 fn put_space(due: bool, out: &mut [u8], at: usize) -> usize

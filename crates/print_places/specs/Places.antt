@@ -11,7 +11,7 @@ use Rattle.bridge.specs.Bridge.{placed, Within}
 use Rattle.output.specs.Writing.{Put}
 use Rattle.prints.specs.Records.{quote_at}
 use Rattle.prints.specs.Writing.{State, outside, due_space, write_tokens}
-use Rattle.text_parts.specs.declared.Flawed.{Flawed}
+use Rattle.print_places.specs.declared.Flawed.{Flawed}
 use Rattle.print_places.specs.declared.Written.{Written}
 
 -- What the rules still give from a place on, outside of strings.

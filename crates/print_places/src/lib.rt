@@ -7,3 +7,7 @@ pub struct Written {
     pub at: usize,
     pub out: usize,
 }
+
+// What answers in place of what was written: an error is recorded in it.
+#[derive(Clone, Copy)]
+pub struct Flawed;

@@ -8,7 +8,7 @@ use Rattle.walks.specs.Openings.{opens_line, opens_block}
 use Rattle.classes.specs.Classes.{SPACE, class_of}
 use Rattle.skipping.specs.Skips.{is_skipped}
 use Rattle.prints.specs.Writing.{State}
-use Rattle.text_parts.specs.declared.Flawed.{Flawed}
+use Rattle.print_places.specs.declared.Flawed.{Flawed}
 use Rattle.print_places.specs.Places.{still, right_from}
 use Rattle.print_skips.specs.declared.Stop.{Stop}
 

@@ -8,7 +8,7 @@ ghost use Rattle.print_skips.specs.Gaps.{SomeWhite, BlanksTo, WhiteTo, CommentAt
 
 use characters::space;
 use classes::Classes;
-use text_parts::Flawed;
+use print_places::Flawed;
 use walks::walk;
 
 // Where white space ends: the place, and the class of the byte there.

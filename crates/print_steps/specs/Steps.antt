@@ -3,7 +3,7 @@ use Rattle.std.specs.Prelude.{◌≡◌, Bool, false, List, ℕ, get_or, Result,
 use Rattle.characters.specs.Utf8.{chars_at}
 use Rattle.classes.specs.Classes.{OTHER, class_of}
 use Rattle.skipping.specs.Skips.{is_skipped}
-use Rattle.text_parts.specs.declared.Flawed.{Flawed}
+use Rattle.print_places.specs.declared.Flawed.{Flawed}
 use Rattle.print_places.specs.Places.{right_from, Emits}
 use Rattle.print_places.specs.declared.Written.{Written}
 

@@ -14,8 +14,7 @@ ghost use Rattle.print_places.specs.Places as places;
 ghost use Rattle.print_steps.specs.Steps.{Chosen, PrintedAt};
 
 use marks::Marks;
-use print_places::Written;
-use text_parts::Flawed;
+use print_places::{Flawed, Written};
 
 // The string, ordinary or raw, at a place.
 fn put_quoted(text: &[u8], from: usize, out: &mut [u8], at: usize) -> Result<Written, Flawed>

@@ -27,7 +27,7 @@ use Rattle.interpolations.specs.Interpolations.{interpolation_at, PastAt, missin
 use Rattle.interpolations.proofs.InterpLaws.{interp_first, text_bytes_lem, past_forth}
 use Rattle.prints.specs.Print.{parting, is_name}
 use Rattle.prints.proofs.Bytewise.{BytesOf, low, high, bytes_of_char}
-use Rattle.text_parts.specs.declared.Flawed.{Flawed}
+use Rattle.print_places.specs.declared.Flawed.{Flawed}
 use Rattle.print_strings.specs.Strings.{InterpolationBy, InterpolationAt}
 use Rattle.print_strings.specs.declared.Row.{Row}
 

@@ -32,7 +32,7 @@ use Rattle.prints.specs.Print.{literal, parting, is_name}
 use Rattle.prints.specs.Records.{quote_at}
 use Rattle.prints.specs.Writing.{outside, in_string, due_space}
 use Rattle.print_places.specs.Places.{still, still_of, no_errors, right_from, Emits}
-use Rattle.text_parts.specs.declared.Flawed.{Flawed}
+use Rattle.print_places.specs.declared.Flawed.{Flawed}
 use Rattle.print_places.specs.declared.Written.{Written}
 use Rattle.print_places.proofs.Tokens.{open_still}
 use Rattle.print_places.proofs.Elements.{within_placed}

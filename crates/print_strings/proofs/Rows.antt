@@ -1,7 +1,7 @@
 -- The units of a string written one part after another. Assumes nothing.
 use Rattle.std.specs.Prelude.{Some, None, Ok, Err}
 use mathlib.Core.Path.{◌≡◌, refl, sym, ap, ◌∙◌, subst}
-use mathlib.Core.Bool.{Bool, true, false, ◌&&◌, true≢false, and-true, and-false}
+use mathlib.Core.Bool.{Bool, true, false, ◌&&◌, not, true≢false, and-true, and-false}
 use mathlib.Core.List.{List, [], ◌∷◌, ◌++◌, append-nil}
 use Prim.Native.Nat.{ℕ, ◌+◌, ◌*◌, ◌-◌, ◌≤◌}
 use native.Mathlib.Omega.{arith}
@@ -27,8 +27,9 @@ use Rattle.prints.proofs.Bytewise.{empty_encode}
 use Rattle.print_escapes.proofs.Sizes.{literal_length, literal_part}
 use Rattle.print_places.specs.Places.{no_errors}
 use Rattle.text_parts.specs.Parts.{part_bytes, PartWithin}
-use Rattle.text_parts.specs.Units.{GoesOn, Flaws, NextAt}
-use Rattle.text_parts.specs.declared.Flawed.{Flawed}
+use Rattle.cursor.proofs.Pieces.{empty_nil}
+use Rattle.text_parts.specs.Units.{GoesOn, NextAt}
+use Rattle.print_places.specs.declared.Flawed.{Flawed}
 use Rattle.text_parts.specs.declared.Part.{Part}
 use Rattle.text_parts.specs.declared.Part.TheVariants as part
 use Rattle.text_parts.specs.declared.units.Step.{Step}
@@ -100,14 +101,16 @@ module _ (s : List ℕ) (p : Position) (named : Bool) (out₀ out : List ℕ) (a
   and_assoc false b c = refl
 
   -- A part more.
-  pub row_more : (r : Step) (g : GoesOn s c r) (out' : List ℕ) (place' : ℕ) (name' : Bool)
+  pub row_more : (r : Step) (g : GoesOn s c r) → r.bad ≡ false → (out' : List ℕ) (place' : ℕ) (name' : Bool)
       → Put out out' place (emitted_part name s r.part) place' → name' ≡ named_behind name r.part
       → Rowing s p named out₀ out' at g.end place' name'
-  row_more r g out' place' name' w n =
+  row_more r g b out' place' name' w n =
       let l = part_bytes s r.part in
+      let none : g.notes ≡ [] = empty_nil g.notes (not_not (is_empty g.notes) (sym g.bad ∙ b)) in
+      let u : Units s c g.end l [] = subst (λ (es : List ℕ). Units s c g.end l es) none g.units in
       record {
         bytes = y.bytes ++ l;
-        units = units_join s p c g.end y.bytes l [] [] y.units g.units;
+        units = units_join s p c g.end y.bytes l [] [] y.units u;
         put =
             subst (λ (v : List ℕ). Put out₀ out' at v place') (sym (literal_part named y.bytes l))
             (put_then out₀ out out' at place place' (literal named y.bytes) (literal (named && is_empty y.bytes) l) y.put
@@ -117,6 +120,10 @@ module _ (s : List ℕ) (p : Position) (named : Bool) (out₀ out : List ℕ) (a
             ∙ (named_behind_lem s name r.part g.inside
             ∙ (ap (λ (b : Bool). b && is_empty l) y.name_is ∙ (and_assoc named (is_empty y.bytes) (is_empty l) ∙ ap (λ (b : Bool). named && b) (sym (empty_both y.bytes l)))));
       }
+    where
+      not_not : (b : Bool) → not b ≡ false → b ≡ true
+      not_not true e = refl
+      not_not false e = absurd (true≢false e)
 
   -- ── The end ──
 
@@ -150,15 +157,15 @@ module _ (s : List ℕ) (p : Position) (named : Bool) (out₀ out : List ℕ) (a
       no_error_bytes = unfold error_bytes in refl
 
   -- An error in the next part.
-  pub row_wrong : Flaws s c → no_errors (run_errors s p) ≡ false
-  row_wrong g = some_error (run_errors s p) (y.units.errors ∙ g.units.errors)
+  pub row_wrong : (r : Step) → GoesOn s c r → r.bad ≡ true → no_errors (run_errors s p) ≡ false
+  row_wrong r g b = some_error (run_errors s p) (y.units.errors ∙ g.units.errors) (sym g.bad ∙ b)
     where
-      some_error : (es : List TokenizeError) → error_bytes es ≡ g.notes ++ error_bytes (run_errors s g.end) → no_errors es ≡ false
-      some_error (x ∷ es) e = unfold no_errors in refl
-      some_error [] e = go g.notes (sym (unfold error_bytes in e)) g.bad
+      some_error : (es : List TokenizeError) → error_bytes es ≡ g.notes ++ error_bytes (run_errors s g.end) → not (is_empty g.notes) ≡ true → no_errors es ≡ false
+      some_error (x ∷ es) e f = unfold no_errors in refl
+      some_error [] e f = go g.notes (sym (unfold error_bytes in e)) f
         where
-          go : (ns : List ℕ) → ns ++ error_bytes (run_errors s g.end) ≡ [] → is_empty ns ≡ false → no_errors [] ≡ false
-          go [] e f = unfold is_empty in (absurd (true≢false f))
+          go : (ns : List ℕ) → ns ++ error_bytes (run_errors s g.end) ≡ [] → not (is_empty ns) ≡ true → no_errors [] ≡ false
+          go [] e f = unfold is_empty in (absurd (true≢false (sym f)))
           go (n ∷ ns) e f = absurd (omega (arith, ap length e))
 
 -- ── By places ──
@@ -173,20 +180,20 @@ row_begin s from named out at p e w = (p, e, row_start s p named out at w)
 
 module _ (s : List ℕ) (from : ℕ) (named : Bool) (out₀ out : List ℕ) (at c place : ℕ) (name : Bool)
     (y : RowingAt s from named out₀ out at c place name) where
-  pub row_on : (r : Step) → NextAt s c (Ok (Some r)) → (out' : List ℕ) (place' : ℕ) (name' : Bool)
+  pub row_on : (r : Step) → NextAt s c (Some r) → r.bad ≡ false → (out' : List ℕ) (place' : ℕ) (name' : Bool)
       → Put out out' place (emitted_part name s r.part) place' → name' ≡ named_behind name r.part
       → RowingAt s from named out₀ out' at r.at place' name'
-  row_on r n out' place' name' u v p e w =
+  row_on r n b out' place' name' u v p e w =
       let (q, d, z) = y p e w in
       let g = n q d (row_within s p named out₀ out at q place name z) in
-      (g.end, g.ends, row_more s p named out₀ out at q place name z r g out' place' name' u v)
+      (g.end, g.ends, row_more s p named out₀ out at q place name z r g b out' place' name' u v)
 
-  pub row_bad : (f : Flawed) → NextAt s c (Err f) → RowAt s from named out₀ out at (Err f)
-  row_bad f n p e w =
+  pub row_bad : (r : Step) → NextAt s c (Some r) → r.bad ≡ true → (f : Flawed) → RowAt s from named out₀ out at (Err f)
+  row_bad r n b f p e w =
       let (q, d, z) = y p e w in
-      row_wrong s p named out₀ out at q place name z (n q d (row_within s p named out₀ out at q place name z))
+      row_wrong s p named out₀ out at q place name z r (n q d (row_within s p named out₀ out at q place name z)) b
 
-  pub row_over : NextAt s c (Ok None) → RowAt s from named out₀ out at (Ok (record { at = c; out = place; named = name }))
+  pub row_over : NextAt s c None → RowAt s from named out₀ out at (Ok (record { at = c; out = place; named = name }))
   row_over n p e w =
       let (q, d, z) = y p e w in
       (q, d, row_end s p named out₀ out at q place name z (n q d (row_within s p named out₀ out at q place name z)))

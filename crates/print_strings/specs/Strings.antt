@@ -10,7 +10,7 @@ use Rattle.string_runs.specs.Runs.{run_chars, run_made, run_errors}
 use Rattle.interpolations.specs.Interpolations.{interpolation_at}
 use Rattle.prints.specs.Print.{literal, parting, is_name}
 use Rattle.text_parts.specs.Parts.{part_bytes}
-use Rattle.text_parts.specs.declared.Flawed.{Flawed}
+use Rattle.print_places.specs.declared.Flawed.{Flawed}
 use Rattle.text_parts.specs.declared.Part.{Part}
 use Rattle.text_parts.specs.declared.Part.TheVariants as part
 use Rattle.print_places.specs.Places.{no_errors}

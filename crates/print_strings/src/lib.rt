@@ -16,8 +16,8 @@ ghost use Rattle.print_places.specs.Places as places;
 ghost use Rattle.text_parts.specs.Parts.{part_bytes, PartWithin};
 ghost use Rattle.print_strings.specs.Strings.{emitted_part, named_behind, RowAt, InterpolationAt};
 
-use print_places::Written;
-use text_parts::{Flawed, Part, units};
+use print_places::{Flawed, Written};
+use text_parts::{Part, units};
 
 // What was written inside a string: the place behind it, the place behind its bytes, and whether a `$name` stands right before what
 // follows.
@@ -86,7 +86,10 @@ fn put_units(s: &[u8], from: usize, named: bool, out: &mut [u8], at: usize) -> R
     let mut c = from;
     let mut place = at;
     let mut name = named;
-    while let Some(n) = units::next(s, c)? {
+    while let Some(n) = units::next(s, c) {
+        if n.bad {
+            return Err(Flawed);
+        }
         let part = n.part;
         let plain = n.plain & !name;
         place = put_part(s, part, plain, name, out, place);

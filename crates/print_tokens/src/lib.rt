@@ -16,8 +16,7 @@ ghost use Rattle.prints.specs.Print.{character};
 ghost use Rattle.print_escapes.specs.Escapes.{MOST};
 ghost use Rattle.print_places.specs.Places as places;
 
-use print_places::Written;
-use text_parts::Flawed;
+use print_places::{Flawed, Written};
 
 // The bytes of the longest character.
 const CHARACTER_BYTES: usize = 4;

@@ -20,7 +20,7 @@ use Rattle.output.specs.Writing.{Put}
 use Rattle.questions.specs.Questions.{ask_text}
 use Rattle.prints.specs.Print.{print_bytes}
 use Rattle.first_error.specs.First.{first_start}
-use Rattle.text_parts.specs.declared.Flawed.{Flawed}
+use Rattle.print_places.specs.declared.Flawed.{Flawed}
 use Rattle.print_loop.proofs.Outcomes.{walked_bad, walked_print}
 use Rattle.printing.specs.Passes.{WalkedFront}
 use Rattle.printing.specs.Printing.{ask_mistake, ask_print, print_answer, buffer_after, Printed}

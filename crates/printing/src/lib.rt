@@ -8,9 +8,9 @@ ghost use Rattle.printing.specs.Printing.{Printed};
 
 use first_error::first_start;
 use print_loop::write;
+use print_places::Flawed;
 use questions::ask_text;
 use refusals::Refusal;
-use text_parts::Flawed;
 
 // One pass of the print, over the first n bytes of a buffer; the others keep.
 fn write_front(script: &[u8], out: &mut [u8], n: usize) -> Result<usize, Flawed>

@@ -1,7 +1,7 @@
 -- Laws of the parts of a string's piece. Assumes nothing.
-use Rattle.std.specs.Prelude.{Option, Some, None, Ok, Err, is_some}
+use Rattle.std.specs.Prelude.{Option, Some, None, is_some}
 use mathlib.Core.Path.{◌≡◌, refl, sym, ◌∙◌, ap, ap₂, subst}
-use mathlib.Core.Bool.{true, false, not, false≢true}
+use mathlib.Core.Bool.{Bool, true, false, not, false≢true}
 use mathlib.Core.List.{List, [], ◌∷◌, ◌++◌}
 use Prim.Native.Nat.{ℕ, ◌+◌, ◌≤◌, ◌<◌}
 use native.Mathlib.Omega.{arith}
@@ -19,7 +19,6 @@ use Rattle.rules.specs.Lexer.{advances, errors_of}
 use Rattle.rules.proofs.Ahead.{is_eq}
 use Rattle.rules.proofs.Placed.{advances_offset}
 use Rattle.cursor.specs.Strings.{StringUnit, unit_of, stands, unit_errors, units_made, units_errors}
-use Rattle.cursor.proofs.Pieces.{empty_nil}
 use Rattle.cursor.proofs.Units.{made_none, errors_none, ahead_stops, unit_made, unit_errors_lem, whole_unit}
 use Rattle.bridge.specs.Bridge.{placed, Within, Reach, exactly, onward, RunEnd}
 use Rattle.bridge.proofs.Reaches.{reach_again}
@@ -37,7 +36,7 @@ use Rattle.string_runs.specs.Runs.{run_chars, run_made, run_errors, Units}
 use Rattle.string_runs.proofs.RunLaws.{itself}
 use Rattle.string_runs.proofs.Rows.{units_whole, units_plain, units_short, short_low}
 use Rattle.text_parts.specs.Parts.{part_bytes, PartWithin}
-use Rattle.text_parts.specs.Units.{part_of, text_left, GoesOn, Flaws, NextAt}
+use Rattle.text_parts.specs.Units.{part_of, text_left, GoesOn, NextAt}
 use Rattle.text_parts.specs.declared.Part.{Part}
 use Rattle.text_parts.specs.declared.Part.TheVariants as part
 use Rattle.text_parts.specs.declared.units.Step.{Step}
@@ -99,7 +98,7 @@ unit_empty : (p q : Position) (u : StringUnit) → is_empty (error_bytes (unit_e
 unfolding unit_errors
 unit_empty p q u = errors_empty p q (skipped string u.chars u.faults false) u.faults
 
-bad_noted : (p : Position) (m : Option Mistake) → is_empty (error_bytes (mistakes p m)) ≡ not (is_some m)
+bad_noted : (p : Position) (m : Option Mistake) → is_some m ≡ not (is_empty (error_bytes (mistakes p m)))
 unfolding error_bytes error_record_of error_record head_bytes is_empty
 bad_noted p None = refl
 bad_noted p (Some mistake.BadUnicode) = refl
@@ -107,34 +106,38 @@ bad_noted p (Some (mistake.BadEscape e)) = refl
 
 -- ── The kinds of parts ──
 
-pub plain_on : (s : List ℕ) (from to : ℕ) → RunEnd itself s from to → from < to
-    → NextAt s from (Ok (Some (record { part = part.Bytes from to; at = to; plain = true })))
+pub plain_on : (s : List ℕ) (from to : ℕ) → RunEnd itself s from to → from < to → NextAt s from (Some (record { part = part.Bytes from to; at = to; plain = true; bad = false }))
+unfolding is_empty
 plain_on s from to f h p e w =
     let (q, d, k) = f p e w in
     record {
+      notes = [];
       end = q;
       ends = d;
       units = subst (λ (l : List ℕ). Units s p q l []) (ap₂ (λ (m n : ℕ). slice m n s) e d) (units_plain s p q w k);
       inside = (h, omega (arith, k.reach.within.inside));
       plain = λ _. (sym (ap₂ part.Bytes e d), k);
+      bad = refl;
       forth = omega arith;
     }
 
-pub none_on : (s : List ℕ) (at : ℕ) → stands (chars_at s at) ≡ false → NextAt s at (Ok None)
+pub none_on : (s : List ℕ) (at : ℕ) → stands (chars_at s at) ≡ false → NextAt s at None
 none_on s at h p e w = rw e h
 
 pub short_on : (s : List ℕ) (at v : ℕ) → short_escape s at ≡ Some v
-    → NextAt s at (Ok (Some (record { part = part.Char v; at = at + 2; plain = false })))
-unfolding encode_char
+    → NextAt s at (Some (record { part = part.Char v; at = at + 2; plain = false; bad = false }))
+unfolding is_empty encode_char
 short_on s at v e p d w =
     let f = ap (short_escape s) d ∙ e in
     let l = short_low s p w v f in
     record {
+      notes = [];
       end = onward p 2;
       ends = ap (λ (n : ℕ). n + 2) d;
       units = rw (le-leb v 0x7F l) (units_short s p w v f (onward p 2) refl);
       inside = omega arith;
       plain = λ e. absurd (false≢true e);
+      bad = refl;
       forth = omega arith;
     }
 
@@ -160,55 +163,26 @@ module _ (s : List ℕ) (p : Position) (w : Within s p) (u : code.Unit) (h : sta
       (omega (arith, n, y.small, ap length y.made))
       (omega (arith, n, advances_offset p unit.chars, bytes_least unit.chars, errors_size_lem (unit_errors p unit), ap length (unit_errors_lem cs rest h e p), f.few p))
 
-  abbrev noted : List ℕ
-  noted = error_bytes (unit_errors p unit)
-
-  empty_noted : is_empty noted ≡ not (is_some u.mistake)
-  empty_noted =
-      unit_empty p (placed p.offset) unit ∙ ap (λ (es : List TokenizeError). is_empty (error_bytes es)) y.errors ∙ bad_noted (placed p.offset) u.mistake
-
-  abbrev taken : Part
-  taken = part_of p.offset u.next.offset u.made
-
-  part_units : Units s p behind (part_bytes s taken) noted
-  part_units = subst (λ (l : List ℕ). Units s p behind l noted) (sym (part_made s p.offset u.next.offset u.made)) unit_units
-
-  part_within : PartWithin s taken
-  part_within = part_inside s p.offset u.next.offset u.made y.forth y.reach.within.inside y.char
-
-  pub unit_goes : is_some u.mistake ≡ false → GoesOn s p (record { part = taken; at = u.next.offset; plain = false })
-  unit_goes e =
+  pub unit_goes : (x : Part) (b : Bool) → x ≡ part_of p.offset u.next.offset u.made → b ≡ is_some u.mistake
+      → GoesOn s p (record { part = x; at = u.next.offset; plain = false; bad = b })
+  unit_goes x b e g =
+      let m = u.made in
+      let to = u.next.offset in
       record {
+        notes = error_bytes (unit_errors p unit);
         end = behind;
         ends = reached.1;
-        units = subst (λ (l : List ℕ). Units s p behind (part_bytes s taken) l) (empty_nil noted (empty_noted ∙ ap not e)) part_units;
-        inside = part_within;
+        units =
+            subst (λ (l : List ℕ). Units s p behind l (error_bytes (unit_errors p unit))) (sym (ap (part_bytes s) e ∙ part_made s p.offset to m)) unit_units;
+        inside = subst (PartWithin s) (sym e) (part_inside s p.offset to m y.forth y.reach.within.inside y.char);
         plain = λ e. absurd (false≢true e);
+        bad = g ∙ (bad_noted (placed p.offset) u.mistake ∙ ap (λ (es : List TokenizeError). not (is_empty (error_bytes es))) (sym y.errors) ∙ ap not (unit_empty (placed p.offset) p unit));
         forth = omega (arith, y.forth, reached.1);
       }
 
-  pub unit_flaws : is_some u.mistake ≡ true → Flaws s p
-  unit_flaws e =
-      record {
-        part = taken;
-        notes = noted;
-        end = behind;
-        units = part_units;
-        inside = part_within;
-        bad = empty_noted ∙ ap not e;
-        forth = omega (arith, y.forth, reached.1);
-      }
-
--- The unit at a place, whatever line and column it has.
-module _ (s : List ℕ) (at : ℕ) (u : code.Unit) (f : (stands (chars_at s at) ≡ true) × UnitAt s (placed at) (unit_of (chars_at s at)) u) where
-  moved : (p : Position) → p.offset ≡ at → (stands (chars_at s p.offset) ≡ true) × UnitAt s (placed p.offset) (unit_of (chars_at s p.offset)) u
-  moved p d = subst (λ (n : ℕ). (stands (chars_at s n) ≡ true) × UnitAt s (placed n) (unit_of (chars_at s n)) u) (sym d) f
-
-  pub unit_on : (x : Part) → x ≡ part_of at u.next.offset u.made → is_some u.mistake ≡ false
-      → NextAt s at (Ok (Some (record { part = x; at = u.next.offset; plain = false })))
-  unit_on x e g p d w =
-      let y = moved p d in
-      rw (e ∙ ap (λ (n : ℕ). part_of n u.next.offset u.made) (sym d)) (unit_goes s p w u y.0 y.1 g)
-
-  pub flawed_on : is_some u.mistake ≡ true → NextAt s at (Err (record {}))
-  flawed_on g p d w = let y = moved p d in unit_flaws s p w u y.0 y.1 g
+pub unit_on : (s : List ℕ) (at : ℕ) (u : code.Unit) (x : Part) (b : Bool)
+    → (stands (chars_at s at) ≡ true) × UnitAt s (placed at) (unit_of (chars_at s at)) u → x ≡ part_of at u.next.offset u.made → b ≡ is_some u.mistake
+    → NextAt s at (Some (record { part = x; at = u.next.offset; plain = false; bad = b }))
+unit_on s at u x b f e g p d w =
+    let y = subst (λ (n : ℕ). (stands (chars_at s n) ≡ true) × UnitAt s (placed n) (unit_of (chars_at s n)) u) (sym d) f in
+    unit_goes s p w u y.0 y.1 x b (e ∙ ap (λ (n : ℕ). part_of n u.next.offset u.made) (sym d)) g

@@ -1,5 +1,5 @@
 -- The text of a string's piece in parts.
-use Rattle.std.specs.Prelude.{◌≡◌, Bool, true, false, List, [], ℕ, ◌<◌, Option, Some, None, Result, Ok, Err}
+use Rattle.std.specs.Prelude.{◌≡◌, Bool, true, false, not, List, ℕ, ◌<◌, Option, Some, None}
 use Rattle.characters.specs.Utf8.{chars_at, encode}
 use Rattle.spans.specs.declared.Position.{Position}
 use Rattle.rules.specs.Text.{ch, is_empty}
@@ -9,7 +9,6 @@ use Rattle.string_units.specs.declared.Made.{Made}
 use Rattle.string_units.specs.declared.Made.TheVariants as made
 use Rattle.string_runs.specs.Runs.{run_made, Units}
 use Rattle.text_parts.specs.Parts.{part_bytes, PartWithin}
-use Rattle.text_parts.specs.declared.Flawed.{Flawed}
 use Rattle.text_parts.specs.declared.Part.{Part}
 use Rattle.text_parts.specs.declared.Part.TheVariants as part
 use Rattle.text_parts.specs.declared.units.Step.{Step}
@@ -20,38 +19,28 @@ part_of from to made.Nothing = part.Nothing
 part_of from to made.Own = part.Bytes from to
 part_of from to (made.Char c) = part.Char c
 
-
 -- What the units from a position on still give: the text of the piece that begins there.
 abbrev pub text_left : List ℕ → Position → List ℕ
 text_left s p = encode (run_made s p)
 
--- The next part: the units from `p` on are it, without an error, and then the units from where it ends. Where it says so, it is all the
--- plain characters at `p`.
+-- The next part: the units from `p` on are it, and then the units from where it ends; `notes` are its errors. Where it says so, it is all
+-- the plain characters at `p`.
 pub record GoesOn (s : List ℕ) (p : Position) (r : Step) : Type 0 where
+  pub notes : List ℕ
   pub end : Position
   pub ends : end.offset ≡ r.at
-  pub units : Units s p end (part_bytes s r.part) []
+  pub units : Units s p end (part_bytes s r.part) notes
   pub inside : PartWithin s r.part
   pub plain :
       r.plain ≡ true → (r.part ≡ part.Bytes p.offset end.offset) × PastRun (is_plain (ch "\"") (ch "$") (ch "\\")) s p end
+  pub bad : r.bad ≡ not (is_empty notes)
   pub forth : p.offset < end.offset
 
--- A part with errors, `notes`: the units from `p` on are it, and then the units from where it ends.
-pub record Flaws (s : List ℕ) (p : Position) : Type 0 where
-  pub part : Part
-  pub notes : List ℕ
-  pub end : Position
-  pub units : Units s p end (part_bytes s part) notes
-  pub inside : PartWithin s part
-  pub bad : is_empty notes ≡ false
-  pub forth : p.offset < end.offset
-
--- The next part, or no unit stands there; or the part has an error.
-abbrev pub NextBy : List ℕ → Position → Result (Option Step) Flawed → Type 0
-NextBy s p (Ok (Some r)) = GoesOn s p r
-NextBy s p (Ok None) = stands (chars_at s p.offset) ≡ false
-NextBy s p (Err e) = Flaws s p
+-- The next part, or no unit stands there.
+abbrev pub NextBy : List ℕ → Position → Option Step → Type 0
+NextBy s p (Some r) = GoesOn s p r
+NextBy s p None = stands (chars_at s p.offset) ≡ false
 
 -- The next part from a place on, whatever line and column it has.
-abbrev pub NextAt : List ℕ → ℕ → Result (Option Step) Flawed → Type 0
+abbrev pub NextAt : List ℕ → ℕ → Option Step → Type 0
 NextAt s at r = (p : Position) → p.offset ≡ at → Within s p → NextBy s p r

@@ -11,7 +11,3 @@ pub enum Part {
     Char(u32),
     Nothing,
 }
-
-// What answers in place of a text or of its print: an error is recorded in it.
-#[derive(Clone, Copy)]
-pub struct Flawed;

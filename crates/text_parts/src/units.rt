@@ -3,18 +3,20 @@ ghost use Rattle.std.specs.Prelude.{◌≡◌};
 ghost use Rattle.bridge.specs.Bridge.{placed, Within};
 ghost use Rattle.text_parts.specs.Units.{part_of, NextAt};
 
-use super::{Flawed, Part};
+use super::Part;
 use string_units::Made;
 
 // The bytes of a backslash and its letter.
 const ESCAPE_BYTES: usize = 2;
 
-// The next part and the place behind it. `plain` says that each character of the part stands for itself.
+// The next part and the place behind it. `plain` says that each character of the part stands for itself, `bad` that an error was recorded
+// in it.
 #[derive(Clone, Copy)]
 pub struct Step {
     pub part: Part,
     pub at: usize,
     pub plain: bool,
+    pub bad: bool,
 }
 
 // The part that a unit from one place to another makes.
@@ -29,50 +31,50 @@ fn part_of(from: usize, to: usize, made: Made) -> Part
 }
 
 // The unit at a place, or none.
-fn unit_step(text: &[u8], from: usize) -> Result<Option<Step>, Flawed>
+fn unit_step(text: &[u8], from: usize) -> Option<Step>
     requires { Within text.now (placed from) }
     ensures { NextAt text.now from result }
 {
     let Some(u) = string_units::unit_at(text, bridge::at_place(from)) else {
-        return Ok(None);
+        return None;
     };
     let after = u.next;
     let made = u.made;
-    if u.mistake.is_some() {
-        return Err(Flawed);
-    }
-    Ok(Some(Step {
+    Some(Step {
         part: part_of(from, after.offset, made),
         at: after.offset,
         plain: false,
-    }))
+        bad: u.mistake.is_some(),
+    })
 }
 
 // The next part of the units from a place on; none where no unit stands. Most pieces are plain characters up to a quote, and most escapes
 // are of one byte: these are looked for first.
-pub fn next(text: &[u8], from: usize) -> Result<Option<Step>, Flawed>
+pub fn next(text: &[u8], from: usize) -> Option<Step>
     requires { Within text.now (placed from) }
     ensures { NextAt text.now from result }
 {
     let to = bridge::plain_end(text, from, b'"', b'$', b'\\');
     if from < to {
-        return Ok(Some(Step {
+        return Some(Step {
             part: Part::Bytes(from, to),
             at: to,
             plain: true,
-        }));
+            bad: false,
+        });
     }
     if bridge::is_at(text, from, b'"') {
-        return Ok(None);
+        return None;
     }
     if let Some(v) = escapes::short_escape(text, from) {
         let made = v as u32;
         let behind = from + ESCAPE_BYTES;
-        return Ok(Some(Step {
+        return Some(Step {
             part: Part::Char(made),
             at: behind,
             plain: false,
-        }));
+            bad: false,
+        });
     }
     unit_step(text, from)
 }

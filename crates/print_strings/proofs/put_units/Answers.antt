@@ -1,5 +1,4 @@
 -- `print_strings::put_units` meets its contract. The invariant: the units so far were written as a literal, without an error. The
-use Rattle.std.proofs.lemmas.Result.{err_from_is_err_and}
 use mathlib.Core.Path.{refl, subst}
 use mathlib.Core.Bool.{◌&&◌, not}
 use Prim.Native.Nat.{ℕ}
@@ -18,15 +17,13 @@ next-requires c =
     let (q, d, y) = c.loop-n.invariant.0 _ refl c.loop-n.invariant.1 in
     subst (λ (n : ℕ). Within c.args.s.now (placed n)) d (within_placed c.args.s.now q (row_within _ _ _ _ _ _ _ _ _ y))
 
-pub returns-in_err-n : goal.returns-in_err-n
-returns-in_err-n c =
-    let p = err_from_is_err_and c.from_residual.result c.from_residual.ensures.1 in
-    let h = c.in_err-n.ensures in
-    rw p.1 (row_bad _ _ _ _ _ _ _ _ _ c.loop-n.invariant.0 p.0 c.in_err-n.ensures)
+pub returns-then-in-Some : goal.returns-then-in-Some
+returns-then-in-Some c =
+    row_bad _ _ _ _ _ _ _ _ _ c.loop-n.invariant.0 _ (rw c.in-Some.is at c.next.ensures) c.if-in-Some.true _
 
 pub put_part-place-requires : goal.put_part-place-requires
 put_part-place-requires c =
-    let h = rw c.in-Some.is at c.in_ok-n.ensures in
+    let h = rw c.in-Some.is at c.next.ensures in
     let (q, d, y) = c.loop-n.invariant.0 _ refl c.loop-n.invariant.1 in
     let v = row_within _ _ _ _ _ _ _ _ _ y in
     let g = h q d v in
@@ -34,17 +31,17 @@ put_part-place-requires c =
 
 pub loop-n-smaller : goal.loop-n-smaller
 loop-n-smaller c =
-    let h = rw c.in-Some.is at c.in_ok-n.ensures in
+    let h = rw c.in-Some.is at c.next.ensures in
     let (q, d, y) = c.loop-n.invariant.0 _ refl c.loop-n.invariant.1 in
     let g = h q d (row_within _ _ _ _ _ _ _ _ _ y) in
     omega (arith, d, g.forth, g.ends, g.units.reach.within.inside)
 
 pub loop-n-preserved : goal.loop-n-preserved
 loop-n-preserved c =
-    let h = rw c.in-Some.is at c.in_ok-n.ensures in (
-      row_on _ _ _ _ _ _ _ _ _ c.loop-n.invariant.0 _ h _ _ _ c.put_part-place.ensures c.is_named-name.ensures,
+    let h = rw c.in-Some.is at c.next.ensures in (
+      row_on _ _ _ _ _ _ _ _ _ c.loop-n.invariant.0 _ h c.if-in-Some.false _ _ _ c.put_part-place.ensures c.is_named-name.ensures,
       c.loop-n.invariant.1,
     )
 
 pub returns : goal.returns
-returns c = row_over _ _ _ _ _ _ _ _ _ c.loop-n.invariant.0 (rw c.in_default.is at c.in_ok-n.ensures)
+returns c = row_over _ _ _ _ _ _ _ _ _ c.loop-n.invariant.0 (rw c.in_default.is at c.next.ensures)
