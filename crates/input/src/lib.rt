@@ -2,78 +2,43 @@
 #![tactic(auto)]
 
 ghost use Rattle.std.specs.Prelude.{◌≡◌, ◌<◌, length, take};
-ghost use Rattle.input.specs.Input.{IsAnswer, piece_of, PieceWithin, PieceTaken, InputWithin, InputTaken};
-ghost use Rattle.std.specs.Io.{ReadsAtMost};
+ghost use Rattle.input.specs.Input.{piece_of, PieceWithin, PieceTaken, InputWithin, InputTaken};
 
-use std::io::Read;
+use std::io::{self, Read};
 
-// What one read gave.
-#[derive(Clone, Copy)]
-enum Piece {
-    // So many bytes.
-    Bytes(usize),
-    End,
-    Failed,
-}
-
-// What all reads gave.
-#[derive(Clone, Copy)]
-pub enum Input {
-    // So many bytes at the front of the buffer.
-    Read(usize),
-    Failed,
-}
-
-// What an answer of a read into a buffer means.
-fn piece_of(got: isize, buf: &[u8]) -> Piece
-    ensures { result ≡ piece_of got (length buf.now) }
-{
-    if got < 0 {
-        return Piece::Failed;
-    }
-    if got == 0 {
-        return Piece::End;
-    }
-    Piece::Bytes(io::count(got, buf))
-}
-
-// What a reader answered to a read into a buffer, as a number: how many bytes it gave, or -1 if it failed.
-fn answer_of(got: std::io::Result<usize>, buf: &[u8]) -> isize
-    requires { ReadsAtMost got buf.now }
-    ensures { IsAnswer result got }
+// What a read gave: so many bytes, or none at the end of the input.
+fn piece_of(got: io::Result<usize>) -> io::Result<Option<usize>>
+    ensures { result ≡ piece_of got }
 {
     match got {
-        Ok(n) => n as isize,
-        Err(_) => -1,
+        Ok(0) => Ok(None),
+        Ok(n) => Ok(Some(n)),
+        Err(e) => Err(e),
     }
 }
 
 // One read into the buffer from a place on. What stands before the place keeps.
-fn read_piece<R: Read>(reader: &mut R, buf: &mut [u8], at: usize) -> Piece
+fn read_piece<R: Read>(reader: &mut R, buf: &mut [u8], at: usize) -> io::Result<Option<usize>>
     requires { at < length buf.old }
     ensures piece_within { PieceWithin result at (length buf.new) }
     ensures buf_unchanged { take at buf.new ≡ take at buf.old }
     ensures taken { PieceTaken (R.remaining reader.old) (R.remaining reader.new) result at buf.new }
 {
     let rest = &mut buf[at..];
-    let answer = reader.read(rest);
-    let got = answer_of(answer, rest);
-    piece_of(got, rest)
+    piece_of(reader.read(rest))
 }
 
-// Reads until the buffer is full, the input ends or a read fails.
-pub fn read_input<R: Read>(reader: &mut R, buf: &mut [u8]) -> Input
+// Reads until the buffer is full, the input ends or a read fails: so many bytes stand at the front of the buffer then.
+pub fn read_input<R: Read>(reader: &mut R, buf: &mut [u8]) -> io::Result<usize>
     ensures within { InputWithin result buf.new }
     ensures taken { InputTaken (R.remaining reader.old) (R.remaining reader.new) result buf.new }
 {
     let mut n = 0;
     while n < buf.len() {
-        let p = read_piece(reader, buf, n);
-        match p {
-            Piece::Bytes(more) => n += more,
-            Piece::End => return Input::Read(n),
-            Piece::Failed => return Input::Failed,
-        }
+        let Some(more) = read_piece(reader, buf, n)? else {
+            return Ok(n);
+        };
+        n += more;
     }
-    Input::Read(n)
+    Ok(n)
 }

@@ -1,9 +1,7 @@
 -- What the program hands to standard output: the listing of the bytes that were read, or nothing if a read failed.
-use Rattle.std.specs.Prelude.{ℕ, List, [], take}
-use Rattle.input.specs.declared.Input.{Input}
-use Rattle.input.specs.declared.Input.TheVariants as input
+use Rattle.std.specs.Prelude.{ℕ, List, [], take, Result, Ok, Err}
 use Rattle.listing.specs.Listing.{listing}
 
-unfoldable pub written : Input → List ℕ → List ℕ
-written (input.Read n) bytes = listing (take n bytes)
-written input.Failed bytes = []
+unfoldable pub written : {E : Type 0} → Result ℕ E → List ℕ → List ℕ
+written (Ok n) bytes = listing (take n bytes)
+written (Err e) bytes = []

@@ -6,24 +6,16 @@ ghost use Rattle.input.specs.Input.{InputWithin};
 ghost use Rattle.listing.specs.Listing.{LONGEST};
 ghost use Rattle.tokens.specs.Written.{written};
 
-use input::Input;
 use std::io;
 use std::io::Write;
 
-// Room for the longest listing. The contract gives only the length.
-fn listing_buffer() -> [u8; listing::LONGEST]
-    ensures { LONGEST ≡ length result }
-{
-    [0; listing::LONGEST]
-}
-
 // The listing of the bytes that were read, in a buffer that holds every listing; nothing if a read failed.
-fn listed<'a>(buf: &[u8], got: Input, out: &'a mut [u8]) -> &'a mut [u8]
+fn listed<'a>(buf: &[u8], got: io::Result<usize>, out: &'a mut [u8]) -> &'a mut [u8]
     requires input_within { InputWithin got buf.now }
     requires in_bounds { LONGEST ≤ length out.old }
     ensures { result.now ≡ written got buf.now }
 {
-    let Input::Read(n) = got else {
+    let Ok(n) = got else {
         return &mut out[..0];
     };
     let k = listing::list(&buf[..n], out);
@@ -35,7 +27,7 @@ fn listed<'a>(buf: &[u8], got: Input, out: &'a mut [u8]) -> &'a mut [u8]
 fn main(rt: HostRuntime) -> io::Result<()> {
     let mut buf = [0u8; listing::LISTED + 1];
     let got = input::read_input(&mut rt.stdin(), &mut buf);
-    let mut out = listing_buffer();
+    let mut out = listing::zeros::<{ listing::LONGEST }>();
     let lines = listed(&buf, got, &mut out);
     rt.stdout().write_all(lines)
 }

@@ -17,9 +17,9 @@ next-requires c =
     let (q, d, y) = c.loop-n.invariant.0 _ refl c.loop-n.invariant.1 in
     subst (λ (n : ℕ). Within c.args.s.now (placed n)) d (within_placed c.args.s.now q (row_within _ _ _ _ _ _ _ _ _ y))
 
-pub returns-then-in-Some : goal.returns-then-in-Some
-returns-then-in-Some c =
-    row_bad _ _ _ _ _ _ _ _ _ c.loop-n.invariant.0 _ (rw c.in-Some.is at c.next.ensures) c.if-in-Some.true _
+pub returns-then-n : goal.returns-then-n
+returns-then-n c =
+    row_bad _ _ _ _ _ _ _ _ _ c.loop-n.invariant.0 _ (rw c.in-Some.is at c.next.ensures) c.if-n.true _
 
 pub put_part-place-requires : goal.put_part-place-requires
 put_part-place-requires c =
@@ -39,7 +39,7 @@ loop-n-smaller c =
 pub loop-n-preserved : goal.loop-n-preserved
 loop-n-preserved c =
     let h = rw c.in-Some.is at c.next.ensures in (
-      row_on _ _ _ _ _ _ _ _ _ c.loop-n.invariant.0 _ h c.if-in-Some.false _ _ _ c.put_part-place.ensures c.is_named-name.ensures,
+      row_on _ _ _ _ _ _ _ _ _ c.loop-n.invariant.0 _ h c.if-n.false _ _ _ c.put_part-place.ensures c.is_named-name.ensures,
       c.loop-n.invariant.1,
     )
 
