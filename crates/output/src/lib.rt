@@ -37,17 +37,6 @@ pub fn put_bytes(part: &[u8], buf: &mut [u8], at: usize) -> usize
     end
 }
 
-// The bytes src[from..to].
-pub fn put_part(src: &[u8], from: usize, to: usize, buf: &mut [u8], at: usize) -> usize
-    requires from_le_to { from ≤ to }
-    requires to_in_bounds { to ≤ length src.now }
-    requires to_bound { to ≤ PLACES }
-    requires at_bound { at ≤ PLACES }
-    ensures { Put buf.old buf.new at (slice from to src.now) result }
-{
-    put_bytes(&src[from..to], buf, at)
-}
-
 // A character as UTF-8.
 pub fn put_char(c: u32, buf: &mut [u8], at: usize) -> usize
     requires c_bound { c ≤ 0x10FFFF }
