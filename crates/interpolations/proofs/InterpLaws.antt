@@ -157,17 +157,11 @@ module _ (s : List ℕ) (p : Position) (w : Within s p) (c : Closing) (x : PastA
       → Put errors errors' ue (error_bytes (unclosed c.found UnterminatedInterpolation c.at c.at)) n
       → InterpolationAt s p start texts texts' ut errors errors' ue
       (record {
-        token =
-            record {
-              kind = StringInterpStart;
-              span = z;
-              offset = ut;
-              length = e - ut;
-              texts = e;
-              errors = n;
-              ran_out = not c.found;
-            };
+        token = record { kind = StringInterpStart; span = z; offset = ut; length = e - ut };
         next = InString start c.at;
+        ran_out = not c.found;
+        texts = e;
+        errors = n;
       })
   interpolation_at_lem start texts t texts' ut m e errors errors' ue n z f a b d =
       let y = past_put texts t texts' ut m e a b in

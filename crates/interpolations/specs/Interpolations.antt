@@ -36,6 +36,6 @@ pub record InterpolationAt (s : List ℕ) (p start : Position) (texts texts' : L
   pub span : r.token.span ≡ span start (position r.next)
   pub offset : r.token.offset ≡ ut
   pub size : r.token.length ≡ length (encode (interpolation_at s p).text)
-  pub ran_out : r.token.ran_out ≡ (interpolation_at s p).open_end
-  pub made : Put texts texts' ut (encode (interpolation_at s p).text) r.token.texts
-  pub noted : Put errors errors' ue (error_bytes (interpolation_errors (position r.next) (interpolation_at s p))) r.token.errors
+  pub ran_out : r.ran_out ≡ (interpolation_at s p).open_end
+  pub made : Put texts texts' ut (encode (interpolation_at s p).text) r.texts
+  pub noted : Put errors errors' ue (error_bytes (interpolation_errors (position r.next) (interpolation_at s p))) r.errors

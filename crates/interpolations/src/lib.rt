@@ -11,17 +11,20 @@ ghost use Rattle.string_runs.specs.Runs.{USED};
 ghost use Rattle.interpolations.specs.Interpolations.{PastAt, missing, InterpolationAt};
 
 use cursor::Cursor;
+use records::answers::TokenRecord;
 use rules::error_kinds::UNTERMINATED_INTERPOLATION;
 use rules::kinds;
 use spans::Position;
-use steps::Token;
 use walks::{Closing, error, walk};
 
-// A token, and the next cursor.
+// A token, the next cursor, whether the text ran out in the token, and how many bytes of the two buffers are used then.
 #[derive(Clone, Copy)]
 pub struct Given {
-    pub token: Token,
+    pub token: TokenRecord,
     pub next: Cursor,
+    pub ran_out: bool,
+    pub texts: usize,
+    pub errors: usize,
 }
 
 // Where the interpolation ends whose dollar sign stands at p: behind its name or its closing brace.
@@ -81,17 +84,17 @@ pub fn interpolation(
     let part = output::put_bytes(&text[p.offset..q.offset], texts, used_texts);
     let end = put_brace(found, texts, part);
     let noted = error::put_unclosed(errors, used_errors, found, UNTERMINATED_INTERPOLATION, q, q);
-    let token = Token {
+    let token = TokenRecord {
         kind: kinds::STRING_INTERP_START,
         span: error::between(start, q),
         offset: used_texts,
         length: end - used_texts,
-        texts: end,
-        errors: noted,
-        ran_out: !found,
     };
     Given {
         token,
         next: Cursor::InString(start, q),
+        ran_out: !found,
+        texts: end,
+        errors: noted,
     }
 }

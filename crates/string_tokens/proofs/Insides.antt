@@ -30,7 +30,7 @@ use Rattle.steps.specs.Step.{Good, GivenBy, rest_of, rest_outside}
 use Rattle.steps.specs.declared.Step.{Step}
 use Rattle.steps.proofs.Giving.{before_given}
 use Rattle.steps.specs.Tokens.{cursor_of, is_ended, Found}
-use Rattle.string_tokens.specs.Inside.{next_cursor}
+use Rattle.string_tokens.specs.Inside.{given_token, next_cursor}
 use Rattle.steps.proofs.Entries.{made_is, made_entry}
 
 next_is : (c : cursor.Cursor) → cursor_of (next_cursor c).within (next_cursor c).at ≡ c
@@ -64,7 +64,7 @@ module _ (s : List ℕ) (c : cursor.Cursor) (place : ℕ) (p start : Position) (
       size_of : length (encode x.text) ≡ ut + length (encode x.text) - ut
       size_of = omega arith
 
-  pub piece_found : Found s c place texts ut errors ue g.token (next_cursor g.next) texts' errors'
+  pub piece_found : Found s c place texts ut errors ue (given_token g) (next_cursor g.next) texts' errors'
   piece_found =
       record {
         token = found;
@@ -72,13 +72,13 @@ module _ (s : List ℕ) (c : cursor.Cursor) (place : ℕ) (p start : Position) (
         yields =
             here
             ∙ (x.same
-            ∙ ap (λ (n : cursor.Cursor). and_then (found ∷ []) x.recorded g.token.ran_out (left n (chars_at s (position g.next).offset))) (sym (next_is g.next))
-            ∙ ap (λ (q : Position). and_then (found ∷ []) x.recorded g.token.ran_out (left (cursor_of (next_cursor g.next).within (next_cursor g.next).at) (chars_at s q.offset))) (sym (next_at_lem g.next)));
+            ∙ ap (λ (n : cursor.Cursor). and_then (found ∷ []) x.recorded g.ran_out (left n (chars_at s (position g.next).offset))) (sym (next_is g.next))
+            ∙ ap (λ (q : Position). and_then (found ∷ []) x.recorded g.ran_out (left (cursor_of (next_cursor g.next).within (next_cursor g.next).at) (chars_at s q.offset))) (sym (next_at_lem g.next)));
         written =
             record {
               kind = refl;
               entry = entry;
-              texts = subst (λ (bs : List ℕ). Put texts texts' ut bs g.token.texts) (sym (made_is ut found x.kind_made)) x.made;
+              texts = subst (λ (bs : List ℕ). Put texts texts' ut bs g.texts) (sym (made_is ut found x.kind_made)) x.made;
               errors = x.noted;
             };
         good = next_good s g.next x.within;
@@ -112,7 +112,7 @@ never_over s p start texts texts' ut errors errors' ue x q me e h =
 pub first_found : (s : List ℕ) (p q : Position) (texts texts' : List ℕ) (ut : ℕ) (errors errors' : List ℕ) (ue : ℕ) (x : Piece) (g : Given)
     → x ≡ piece.Token g → PieceAt s q p true texts texts' ut errors errors' ue x → q ≡ onward p 1 → Within s p
     → next (exactly 34) (chars_at s p.offset) ≡ true → starts_with quotes (chars_at s p.offset) ≡ false
-    → Found s (cur.Outside p) p.offset texts ut errors ue g.token (next_cursor g.next) texts' errors'
+    → Found s (cur.Outside p) p.offset texts ut errors ue (given_token g) (next_cursor g.next) texts' errors'
 first_found s p q texts texts' ut errors errors' ue x g e h m w n k =
     piece_found s (cur.Outside p) p.offset q p true texts texts' ut errors errors' ue g
     (quote_here s p w n k ∙ ap (λ (z : Position). held false p z [] (chars_at s z.offset)) (sym m))
@@ -120,7 +120,7 @@ first_found s p q texts texts' ut errors errors' ue x g e h m w n k =
 
 pub later_found : (s : List ℕ) (p start : Position) (texts texts' : List ℕ) (ut : ℕ) (errors errors' : List ℕ) (ue : ℕ) (x : Piece) (g : Given)
     → x ≡ piece.Token g → PieceAt s p start false texts texts' ut errors errors' ue x
-    → Found s (cur.InString start p) p.offset texts ut errors ue g.token (next_cursor g.next) texts' errors'
+    → Found s (cur.InString start p) p.offset texts ut errors ue (given_token g) (next_cursor g.next) texts' errors'
 later_found s p start texts texts' ut errors errors' ue x g e h =
     piece_found s (cur.InString start p) p.offset p start false texts texts' ut errors errors' ue g (inside_here s start p)
     (subst (PieceAt s p start false texts texts' ut errors errors' ue) e h)

@@ -15,14 +15,24 @@ ghost use Rattle.string_tokens.specs.Inside.{given_step};
 use interpolations::Given;
 use rules::kinds;
 use spans::Position;
-use steps::{Cursor, Fill, Step, Within, made};
+use steps::{Cursor, Fill, Step, Token, Within, made};
 use strings::{Piece, pieces};
 
 // The step of a piece of a string.
 pub fn given_step(g: Given) -> Step
     ensures { result ≡ given_step g }
 {
-    let token = g.token;
+    let t = g.token;
+    let span = t.span;
+    let token = Token {
+        kind: t.kind,
+        span,
+        offset: t.offset,
+        length: t.length,
+        texts: g.texts,
+        errors: g.errors,
+        ran_out: g.ran_out,
+    };
     let next = g.next;
     match next {
         cursor::Cursor::Outside(p) => Step::Token(

@@ -107,7 +107,7 @@ not_first false b e = absurd (false≢true e)
 -- ── Answers ──
 
 pub literal_span : (start end : Position) (from : ℕ) (r : Run) (next : Cursor) (o : Bool) (ne : ℕ) (z : Span) → z ≡ span start end
-    → piece.Token (record { token = record { kind = StringLiteral; span = z; offset = from; length = r.texts - from; texts = r.texts; errors = ne; ran_out = o }; next = next })
+    → piece.Token (record { token = record { kind = StringLiteral; span = z; offset = from; length = r.texts - from }; next = next; ran_out = o; texts = r.texts; errors = ne })
     ≡ literal_piece start end from r next o ne
 literal_span start end from r next o ne z e = rw e
 
@@ -305,7 +305,7 @@ module _ (s : List ℕ) (p start : Position) (first : Bool) (texts texts' : List
       interp_opens = subst (λ (n : ℕ). next is_interp_start (chars_at s n) ≡ true) behind_dollar dollar.1
 
       interp_same : is_empty m ≡ true → held (not first) start p [] cs
-          ≡ and_then (token_of z.token i.text ∷ []) (es ++ interpolation_errors e i) z.token.ran_out (left z.next (chars_at s e.offset))
+          ≡ and_then (token_of z.token i.text ∷ []) (es ++ interpolation_errors e i) z.ran_out (left z.next (chars_at s e.offset))
       interp_same h =
           let h' = subst (λ (n : ℕ). is_empty (units_made n cs) ≡ true) (sym run_size) h in
           let rest = chars_at s e.offset in
@@ -316,7 +316,7 @@ module _ (s : List ℕ) (p start : Position) (first : Bool) (texts texts' : List
           (piece_interp (not first) start p cs (run_chars s p) (chars_at s (r.at.offset + 1)) rest (whole_before (36 ∷ chars_at s (r.at.offset + 1)) dollar_is) interp_opens h' (sym dollar_is ∙ x.reach.chars))
           ∙ (ap F (sym x.reach.moved)
           ∙ (ap (λ (u : Token). G u i.open_end (InString start e)) t
-          ∙ (ap (λ (o : Bool). G (token_of z.token i.text) o (InString start e)) (sym x.ran_out) ∙ ap (λ (c : Cursor). G (token_of z.token i.text) z.token.ran_out c) (sym x.next))))
+          ∙ (ap (λ (o : Bool). G (token_of z.token i.text) o (InString start e)) (sym x.ran_out) ∙ ap (λ (c : Cursor). G (token_of z.token i.text) z.ran_out c) (sym x.next))))
 
       pub at_interp : is_empty m ≡ true → r.texts ≡ ut → PieceAt s p start first texts texts'' ut errors errors' ue (piece.Token z)
       at_interp h n =
@@ -332,8 +332,8 @@ module _ (s : List ℕ) (p start : Position) (first : Bool) (texts texts' : List
             kind_made = rw x.kind interp_made;
             offset = x.offset;
             size = x.size;
-            made = subst (λ (v : List ℕ). Put v texts'' ut (encode i.text) z.token.texts) (put_empty texts texts' ut r.texts (encode m) y.made n) x.made;
-            noted = rw b (put_then errors noted errors' ue r.errors z.token.errors (error_bytes es) (error_bytes fs) y.noted x.noted);
+            made = subst (λ (v : List ℕ). Put v texts'' ut (encode i.text) z.texts) (put_empty texts texts' ut r.texts (encode m) y.made n) x.made;
+            noted = rw b (put_then errors noted errors' ue r.errors z.errors (error_bytes es) (error_bytes fs) y.noted x.noted);
             within = x.reach.within;
             forth = omega (arith, y.small);
             small = omega (arith, y.small, x.made.place, text_size (chars_at s (r.at.offset + 1)));

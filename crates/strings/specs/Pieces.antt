@@ -9,13 +9,13 @@ use Rattle.rules.specs.Lexer.{span}
 use Rattle.cursor.specs.declared.Cursor.{Cursor}
 use Rattle.cursor.specs.declared.Cursor.TheVariants.{Outside, InString}
 use Rattle.cursor.specs.Cursor.{and_then, held, left, position}
+use Rattle.records.specs.declared.answers.TokenRecord.{TokenRecord}
 use Rattle.bridge.specs.Bridge.{Within}
 use Rattle.output.specs.Writing.{Put}
 use Rattle.records.specs.Kinds.{is_made}
 use Rattle.records.specs.Layout.{error_bytes}
 use Rattle.string_runs.specs.declared.Run.{Run}
 use Rattle.records.specs.Fields.{LONGEST_ERROR}
-use Rattle.steps.specs.declared.Token as code
 use Rattle.interpolations.specs.declared.Given.{Given}
 use Rattle.strings.specs.declared.Piece.{Piece}
 use Rattle.strings.specs.declared.Piece.TheVariants as piece
@@ -25,21 +25,15 @@ abbrev pub literal_piece : Position → Position → ℕ → Run → Cursor → 
 literal_piece start end from r next ran_out errors =
     piece.Token
     (record {
-      token =
-          record {
-            kind = StringLiteral;
-            span = span start end;
-            offset = from;
-            length = r.texts - from;
-            texts = r.texts;
-            errors = errors;
-            ran_out = ran_out;
-          };
+      token = record { kind = StringLiteral; span = span start end; offset = from; length = r.texts - from };
       next = next;
+      ran_out = ran_out;
+      texts = r.texts;
+      errors = errors;
     })
 
--- The rules' token of one whose text is `t`.
-abbrev pub token_of : code.Token → Text → Token
+-- The token of a record whose text is `t`.
+abbrev pub token_of : TokenRecord → Text → Token
 token_of r t = record { kind = r.kind; text = t; span = r.span }
 
 -- A string's errors may take LONGEST_ERROR bytes for each byte passed; its opening quote counts where it is left.
@@ -54,16 +48,16 @@ pub record Gives (s : List ℕ) (p start : Position) (first : Bool) (texts texts
   pub recorded : List TokenizeError
   pub same :
       held (not first) start p [] (chars_at s p.offset)
-      ≡ and_then (token_of r.token text ∷ []) recorded r.token.ran_out (left r.next (chars_at s (position r.next).offset))
+      ≡ and_then (token_of r.token text ∷ []) recorded r.ran_out (left r.next (chars_at s (position r.next).offset))
   pub kind_made : is_made r.token.kind ≡ true
   pub offset : r.token.offset ≡ ut
   pub size : r.token.length ≡ length (encode text)
-  pub made : Put texts texts' ut (encode text) r.token.texts
-  pub noted : Put errors errors' ue (error_bytes recorded) r.token.errors
+  pub made : Put texts texts' ut (encode text) r.texts
+  pub noted : Put errors errors' ue (error_bytes recorded) r.errors
   pub within : Within s (position r.next)
   pub forth : p.offset ≤ (position r.next).offset
-  pub small : r.token.texts ≤ ut + 3 * ((position r.next).offset - p.offset)
-  pub few : r.token.errors ≤ ue + LONGEST_ERROR * ((position r.next).offset - p.offset) + credit r.next
+  pub small : r.texts ≤ ut + 3 * ((position r.next).offset - p.offset)
+  pub few : r.errors ≤ ue + LONGEST_ERROR * ((position r.next).offset - p.offset) + credit r.next
 
 -- The string is over at `q`, without a token: what was left is the errors, and then what is left outside from `q` on.
 pub record Over (s : List ℕ) (p start : Position) (first : Bool) (texts texts' errors errors' : List ℕ) (ue : ℕ) (q : Position) (me : ℕ) : Type 0 where

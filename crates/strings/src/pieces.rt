@@ -7,10 +7,10 @@ ghost use Rattle.strings.specs.Pieces.{literal_piece, PieceAt};
 use super::Piece;
 use cursor::Cursor;
 use interpolations::Given;
+use records::answers::TokenRecord;
 use rules::error_kinds::{LINE_FEED_IN_STRING, UNTERMINATED_STRING};
 use rules::kinds;
 use spans::Position;
-use steps::Token;
 use string_runs::Run;
 use string_units::{LINE_FEED, QUOTE};
 use walks::error;
@@ -29,16 +29,19 @@ fn literal(
     ensures { result ≡ literal_piece start end from r next ran_out errors }
 {
     let to = r.texts;
-    let token = Token {
+    let token = TokenRecord {
         kind: kinds::STRING_LITERAL,
         span: error::between(start, end),
         offset: from,
         length: to - from,
+    };
+    Piece::Token(Given {
+        token,
+        next,
+        ran_out,
         texts: to,
         errors,
-        ran_out,
-    };
-    Piece::Token(Given { token, next })
+    })
 }
 
 // The step at p, inside the string that began at `start`; `first` is whether the string has only begun.
