@@ -28,7 +28,7 @@ module _ (s texts : List ℕ) (ut : ℕ) (errors : List ℕ) (ue : ℕ) (texts' 
   unfolding rest rest_within
   stepped_outside x e g = stepped (rest_outside s c.at) x (rw e) g
 
-  pub stepped_inside : (start : Position) (x : Step) → c.within ≡ Inside start
+  pub stepped_inside : (start : Position) (x : Step) → c.within ≡ Inside start.offset start.line start.col
       → GivenBy (rest_of (left (cur.InString start c.at) (chars_at s c.at.offset))) s texts ut errors ue x texts' errors'
       → Stepped s c texts ut errors ue x texts' errors'
   unfolding rest rest_within
@@ -36,7 +36,7 @@ module _ (s texts : List ℕ) (ut : ℕ) (errors : List ℕ) (ue : ℕ) (texts' 
 
   -- The same of a piece that is known to be the step.
   pub stepped_piece : (start : Position) (t : code.Token) (c' : Cursor) (x : Step) → x ≡ step.Token t c'
-      → c.within ≡ Inside start
+      → c.within ≡ Inside start.offset start.line start.col
       → GivesOf (rest_of (left (cur.InString start c.at) (chars_at s c.at.offset))) s texts ut errors ue t c' texts' errors'
       → Stepped s c texts ut errors ue x texts' errors'
   stepped_piece start t c' x e w g =
@@ -53,7 +53,7 @@ module _ (s texts : List ℕ) (ut : ℕ) (errors : List ℕ) (ue : ℕ) (c : Cur
       }
 
   pub begins_inside : (start q : Position) (used : ℕ) (texts₁ errors₁ : List ℕ) → Within s q → used ≤ 5368709120
-      → c.within ≡ Inside start
+      → c.within ≡ Inside start.offset start.line start.col
       → ((x : Step) (texts' errors' : List ℕ) → GivenBy (rest_outside s q) s texts₁ ut errors₁ used x texts' errors'
       → GivenBy (rest_of (left (cur.InString start c.at) (chars_at s c.at.offset))) s texts ut errors ue x texts' errors')
       → Begins s c texts ut errors ue q used texts₁ errors₁

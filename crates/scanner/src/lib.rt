@@ -55,7 +55,8 @@ fn enter(text: &[u8], c: Cursor, texts: &mut [u8], errors: &mut [u8], fill: Fill
     let within = c.within;
     match within {
         Within::Outside => begun(p, fill.errors),
-        Within::Inside(start) => {
+        Within::Inside(offset, line, col) => {
+            let start = Position { offset, line, col };
             let x = pieces::piece(
                 text,
                 p,

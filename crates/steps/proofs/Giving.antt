@@ -44,7 +44,7 @@ rest_then t es o r = refl
 going : (w : W.Within) (p : Position) (cs : Text) → is_ended w ≡ false → rest_within w p cs ≡ rest_of (left (cursor_of w p) cs)
 unfolding rest_within is_ended
 going Outside p cs e = refl
-going (Inside start) p cs e = refl
+going (Inside o l c) p cs e = refl
 going Ended p cs e = absurd (let z : ◌≡◌ {A = Bool} true false = e in true_not z)
   where
     true_not : true ≡ false → ⊥

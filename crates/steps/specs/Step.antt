@@ -35,7 +35,7 @@ nothing_left = record { tokens = []; errors = []; ran_out = false }
 
 unfoldable pub rest_within : W.Within → Position → Text → Rest
 rest_within Outside p cs = rest_of (left (cursor.Outside p) cs)
-rest_within (Inside start) p cs = rest_of (left (cursor.InString start p) cs)
+rest_within (Inside o l c) p cs = rest_of (left (cursor.InString (record { offset = o; line = l; col = c }) p) cs)
 rest_within Ended p cs = nothing_left
 
 -- From the cursor `c` on, of the text `s`.

@@ -85,12 +85,12 @@ part_step p q texts errors = step.Token (part_token p q texts errors) (outside_a
 -- The rules' cursor, for one that has not ended.
 abbrev pub cursor_of : W.Within → Position → cursor.Cursor
 cursor_of Outside p = cur.Outside p
-cursor_of (Inside start) p = cur.InString start p
+cursor_of (Inside o l c) p = cur.InString (record { offset = o; line = l; col = c }) p
 cursor_of Ended p = cur.Outside p
 
 unfoldable pub is_ended : W.Within → Bool
 is_ended Outside = false
-is_ended (Inside start) = false
+is_ended (Inside o l c) = false
 is_ended Ended = true
 
 -- The token `t` of the code is the token `token` of the rules with the errors `es`: its record, its text written behind the texts

@@ -5,11 +5,11 @@ use spans::{Position, Span};
 
 pub mod made; // made.rt: the steps that give a token
 
-// Where the cursor stands: outside of strings, inside a string that began at a position, or behind EOF.
+// Where the cursor stands: outside of strings, inside a string with the place, line and column of its start, or behind EOF.
 #[derive(Clone, Copy)]
 pub enum Within {
     Outside,
-    Inside(Position),
+    Inside(usize, usize, usize),
     Ended,
 }
 

@@ -23,7 +23,7 @@ given_token g =
 
 abbrev pub next_cursor : cursor.Cursor → Cursor
 next_cursor (cur.Outside p) = outside_at p
-next_cursor (cur.InString start p) = record { at = p; within = Inside start }
+next_cursor (cur.InString start p) = record { at = p; within = Inside start.offset start.line start.col }
 
 abbrev pub given_step : Given → Step
 given_step g = step.Token (given_token g) (next_cursor g.next)

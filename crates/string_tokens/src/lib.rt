@@ -47,7 +47,7 @@ pub fn given_step(g: Given) -> Step
                 token,
                 Cursor {
                     at: p,
-                    within: Within::Inside(start),
+                    within: Within::Inside(start.offset, start.line, start.col),
                 },
             )
         }
