@@ -6,6 +6,7 @@ ghost use Rattle.classes.specs.Classes.{class_table, class_of};
 
 // 0 is a character that begins nothing, or one beyond ASCII. 1 to LAST_MARK are the marks, in the order
 // = + - > < | & : . ? ! * / % ( ) { } [ ] , ; @ # ^
+// They are numbers and no enum: a mark's class is its row and its column in the table of marks (document 01, "Each place and its form").
 pub const OTHER: u8 = 0;
 
 pub const SLASH: u8 = 13;

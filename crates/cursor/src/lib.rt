@@ -4,6 +4,7 @@
 
 use spans::Position;
 
+// steps::Cursor has a third state, behind EOF: with one type for both, the contract of each piece of a string would have to rule it out.
 #[derive(Clone, Copy)]
 pub enum Cursor {
     // Outside of strings.

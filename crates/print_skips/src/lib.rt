@@ -32,7 +32,8 @@ fn past_wide(text: &[u8], from: usize) -> usize
     from
 }
 
-// Past white space of one byte.
+// Past white space of one byte. It counts its place by itself, since it answers the class behind it too: runs::past would have that byte
+// looked at twice.
 fn past_blanks(classes: &Classes, text: &[u8], from: usize) -> Stop
     requires { Within text.now (placed from) }
     ensures { BlanksTo text.now from result }

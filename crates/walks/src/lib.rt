@@ -7,7 +7,7 @@ pub mod ahead; // ahead.rt: what stands at a place
 pub mod walk; // walk.rt: walks to a closing mark
 pub mod error; // error.rt: the error of what is not closed
 
-// Where a walk to a closing mark ended, and whether it found the mark.
+// Where a walk to a closing mark ended, and whether it found the mark. The position counts either way, so it is no Option.
 #[derive(Clone, Copy)]
 pub struct Closing {
     pub at: Position,
