@@ -14,7 +14,7 @@ pub const FIGURE: usize = 0;
 pub fn truth_of(b: bool) -> u64
     ensures { result ≡ truth b }
 {
-    if b { 1 } else { 0 }
+    u64::from(b)
 }
 
 // An answer as a number and slots. The values of a yes stand where their slots are; the one at the figure's is not used.

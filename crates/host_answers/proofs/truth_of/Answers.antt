@@ -1,11 +1,12 @@
--- `truth_of` meets its contract.
+use Rattle.std.proofs.Common.{◌≡◌, refl, ◌∙◌, Bool, true, false}
+use mir.Val.{bool_byte}
 use Rattle.host_answers.specs.Answers.{truth}
 use Rattle.host_answers.proofs.truth_of.Goals as goal
 
-pub returns-then-b : goal.returns-then-b
+as_truth : (b : Bool) → bool_byte b ≡ truth b
 unfolding truth
-returns-then-b c = rw c.if-b.true
+as_truth true = refl
+as_truth false = refl
 
-pub returns-else-b : goal.returns-else-b
-unfolding truth
-returns-else-b c = rw c.if-b.false
+pub returns : goal.returns
+returns c = c.from.ensures ∙ as_truth c.args.b
