@@ -1,7 +1,7 @@
 // The tokens of strings at a position: strings by their pieces, raw strings, character literals, and `${` outside of strings.
 #![tactic(auto)]
 
-ghost use Rattle.std.specs.Prelude.{◌≡◌, true, false};
+ghost use Rattle.std.specs.Prelude.{◌≡◌, true, false, ◌≤◌};
 ghost use Rattle.characters.specs.Utf8.{chars_at};
 ghost use Rattle.rules.specs.Text.{ch};
 ghost use Rattle.rules.specs.Scan.{next, starts_with};
@@ -9,10 +9,11 @@ ghost use Rattle.bridge.specs.Bridge.{Within as InText, exactly};
 ghost use Rattle.walks.specs.Walks.{quotes};
 ghost use Rattle.multiline.specs.Tokens.{dollar_brace};
 ghost use Rattle.steps.specs.Step.{AfterComment, Roomy};
-ghost use Rattle.steps.specs.Tokens.{FoundAt};
+ghost use Rattle.steps.specs.Tokens.{FoundAt, made_step};
 ghost use Rattle.string_tokens.specs.Inside.{given_step};
 
 use interpolations::Given;
+use multiline::Made;
 use rules::kinds;
 use spans::Position;
 use steps::{Cursor, Fill, Step, Token, Within, made};
@@ -76,6 +77,14 @@ pub fn string_token(
     given_step(g)
 }
 
+// The token from a position on whose text and errors were written.
+fn written_token(kind: u8, p: Position, fill: Fill, m: Made) -> Step
+    requires { fill.texts ≤ m.texts }
+    ensures { result ≡ made_step kind p m.at fill.texts m.texts m.errors m.ran_out }
+{
+    made::made_step(kind, p, m.at, fill.texts, m.texts, m.errors, m.ran_out)
+}
+
 // The raw string at a position.
 pub fn raw_token(text: &[u8], p: Position, texts: &mut [u8], errors: &mut [u8], fill: Fill) -> Step
     requires in_text { InText text.now p }
@@ -84,15 +93,7 @@ pub fn raw_token(text: &[u8], p: Position, texts: &mut [u8], errors: &mut [u8], 
     ensures { FoundAt text.now p texts.old fill.texts errors.old fill.errors result texts.new errors.new }
 {
     let m = multiline::raw(text, p, texts, fill.texts, errors, fill.errors);
-    made::made_step(
-        kinds::STRING_LITERAL,
-        p,
-        m.at,
-        fill.texts,
-        m.texts,
-        m.errors,
-        m.ran_out,
-    )
+    written_token(kinds::STRING_LITERAL, p, fill, m)
 }
 
 // The raw string, or the first piece of the ordinary string, at a quote.
@@ -128,15 +129,7 @@ pub fn letter_token(
     ensures { FoundAt text.now p texts.old fill.texts errors.old fill.errors result texts.new errors.new }
 {
     let m = letters::character(text, p, texts, fill.texts, errors, fill.errors);
-    made::made_step(
-        kinds::CHAR_LITERAL,
-        p,
-        m.at,
-        fill.texts,
-        m.texts,
-        m.errors,
-        m.ran_out,
-    )
+    written_token(kinds::CHAR_LITERAL, p, fill, m)
 }
 
 // `${` at a position, up to its closing brace.

@@ -8,4 +8,4 @@ pub character-m-requires : goal.character-m-requires
 character-m-requires c = record { within = c.requires.in_text; offset_value = c.requires.offset_value; room = record { texts = omega arith; errors = omega arith } }
 
 pub returns : goal.returns
-returns c = rw c.made_step.ensures (made_found _ _ _ _ _ _ _ _ _ _ _ _ _ _ char_made c.character-m.ensures.one c.character-m.ensures.made c.character-m.ensures.written c.character-m.ensures.open_end)
+returns c = rw c.written_token.ensures (made_found _ _ _ _ _ _ _ _ _ _ _ _ _ _ char_made c.character-m.ensures.one c.character-m.ensures.made c.character-m.ensures.written c.character-m.ensures.open_end)

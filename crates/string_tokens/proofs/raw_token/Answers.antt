@@ -8,4 +8,4 @@ pub raw-m-requires : goal.raw-m-requires
 raw-m-requires c = record { within = c.requires.in_text; offset_value = c.requires.offset_value; used_texts_bound = omega arith; used_errors_bound = omega arith }
 
 pub returns : goal.returns
-returns c = rw c.made_step.ensures (made_found _ _ _ _ _ _ _ _ _ _ _ _ _ _ string_made c.raw-m.ensures.one c.raw-m.ensures.made c.raw-m.ensures.written c.raw-m.ensures.open_end)
+returns c = rw c.written_token.ensures (made_found _ _ _ _ _ _ _ _ _ _ _ _ _ _ string_made c.raw-m.ensures.one c.raw-m.ensures.made c.raw-m.ensures.written c.raw-m.ensures.open_end)
