@@ -1,4 +1,4 @@
--- What the tokens, the texts and the errors of a listed script take at most, for the contracts of the inner functions.
+-- What the tokens, the texts and the errors of a listed script take at most: the sizes of the buffers.
 use Rattle.std.specs.Prelude.{ℕ, ◌+◌, ◌*◌}
 use Rattle.records.specs.Fields.{LONGEST_TOKEN, LONGEST_ERROR}
 use Rattle.listing.specs.Listing.{LISTED}
