@@ -33,13 +33,7 @@ pub fn unexpected_token(
 }
 
 // The word at a position, whose first byte is of the class `class`.
-pub fn word_token(
-    tables: &Tables,
-    text: &[u8],
-    p: Position,
-    class: u8,
-    fill: Fill,
-) -> Step
+pub fn word_token(tables: &Tables, text: &[u8], p: Position, class: u8, fill: Fill) -> Step
     requires in_text { InText text.now p }
     requires begun { Begun text.now p.offset class }
     ensures { FoundBare text.now p fill.texts fill.errors result }
