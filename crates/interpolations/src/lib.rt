@@ -12,7 +12,7 @@ ghost use Rattle.interpolations.specs.Interpolations.{PastAt, missing, Interpola
 
 use cursor::Cursor;
 use records::answers::TokenRecord;
-use rules::error_kinds::UNTERMINATED_INTERPOLATION;
+use records::errors::ErrorKind;
 use rules::kinds;
 use spans::Position;
 use walks::{Closing, error, walk};
@@ -83,7 +83,7 @@ pub fn interpolation(
     let found = c.found;
     let part = output::put_bytes(&text[p.offset..q.offset], texts, used_texts);
     let end = put_brace(found, texts, part);
-    let noted = error::put_unclosed(errors, used_errors, found, UNTERMINATED_INTERPOLATION, q, q);
+    let noted = error::put_unclosed(errors, used_errors, found, ErrorKind::UnterminatedInterpolation, q, q);
     let token = TokenRecord {
         kind: kinds::STRING_INTERP_START,
         span: error::between(start, q),

@@ -6,6 +6,7 @@ ghost use Rattle.rules.specs.Script.{accepted};
 ghost use Rattle.room.specs.Needed.{needed};
 ghost use Rattle.list_loop.specs.Run.{Ran, begin_at, nothing_used};
 
+use records::answers::TokenRecord;
 use room::Used;
 use scanner::step;
 use spans::Position;
@@ -63,7 +64,13 @@ pub fn run(script: &[u8], tokens: &mut [u8], texts: &mut [u8], errors: &mut [u8]
         ) else {
             break;
         };
-        let used = output::put_token(tokens, u.tokens, t.kind, t.span, t.offset, t.length);
+        let record = TokenRecord {
+            kind: t.kind,
+            span: t.span,
+            offset: t.offset,
+            length: t.length,
+        };
+        let used = output::put_token(tokens, u.tokens, record);
         let count = u.count + 1;
         u = Used {
             tokens: used,

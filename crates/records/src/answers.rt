@@ -1,4 +1,5 @@
 // What is read of a record.
+use super::errors::ErrorKind;
 use spans::Span;
 
 // A token's record. The text's offset and length are 0 where the kind carries none.
@@ -10,10 +11,9 @@ pub struct TokenRecord {
     pub length: usize,
 }
 
-// An error's record. The code point is 0 where the kind carries none.
+// An error's record.
 #[derive(Clone, Copy)]
 pub struct ErrorRecord {
-    pub kind: u8,
+    pub kind: ErrorKind,
     pub span: Span,
-    pub code: u32,
 }

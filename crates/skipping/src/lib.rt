@@ -12,7 +12,7 @@ ghost use Rattle.skipping.specs.Skips.{SomeWhite, WhiteAt, CommentAt, SkippedAt}
 ghost use Rattle.output.specs.Writing.{PLACES};
 
 use characters::{space, utf8};
-use rules::error_kinds;
+use records::errors::ErrorKind;
 use spans::Position;
 use walks::{Closing, ahead, error, walk};
 
@@ -164,7 +164,7 @@ pub fn skip(text: &[u8], p: Position, errors: &mut [u8], used: usize) -> Skipped
                 errors,
                 used,
                 false,
-                error_kinds::UNTERMINATED_BLOCK_COMMENT,
+                ErrorKind::UnterminatedBlockComment,
                 at,
                 end,
             );
