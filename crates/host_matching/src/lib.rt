@@ -75,7 +75,7 @@ fn matched_slots(matched: (bool, usize)) -> [u64; MATCHED_SLOTS]
     [0, at as u64, truth_of(fits)]
 }
 
-// What matching answers for a kind as wide as the host's numbers.
+// What matching answers for a kind as wide as the host's numbers: two lines as above, over another question.
 fn matched(tokens: &[u8], place: usize, kind: u64) -> Result<(bool, usize), Refusal>
     ensures { of_turn place result ≡ match_at tokens.now place kind }
 {

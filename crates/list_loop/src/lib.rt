@@ -10,7 +10,7 @@ use records::answers::TokenRecord;
 use room::Used;
 use scanner::step;
 use spans::Position;
-use steps::{Cursor, Fill, Step, Within};
+use steps::{Cursor, Fill, Step, Token, Within};
 use words::Tables;
 
 // The cursor at a place of the first line, outside of strings. A text begins at the place 0.
@@ -41,6 +41,18 @@ fn nothing() -> Used
     }
 }
 
+// What a token's record holds.
+fn record_of(t: Token) -> TokenRecord
+    ensures { result ≡ record { kind = t.kind; span = t.span; offset = t.offset; length = t.length } }
+{
+    TokenRecord {
+        kind: t.kind,
+        span: t.span,
+        offset: t.offset,
+        length: t.length,
+    }
+}
+
 // The list loop: each token's record, text and errors, as far as the buffers hold them, and what all of them take.
 pub fn run(script: &[u8], tokens: &mut [u8], texts: &mut [u8], errors: &mut [u8]) -> Used
     requires { accepted script.now ≡ true }
@@ -64,13 +76,7 @@ pub fn run(script: &[u8], tokens: &mut [u8], texts: &mut [u8], errors: &mut [u8]
         ) else {
             break;
         };
-        let record = TokenRecord {
-            kind: t.kind,
-            span: t.span,
-            offset: t.offset,
-            length: t.length,
-        };
-        let used = output::put_token(tokens, u.tokens, record);
+        let used = output::put_token(tokens, u.tokens, record_of(t));
         let count = u.count + 1;
         u = Used {
             tokens: used,

@@ -143,7 +143,7 @@ module _ (s : List ℕ) (p q : Position) (c : Closing) where
       let y = reach_forth s p q _ _ r in
       record {
         one = subst (λ (d : Position). OneToken s p StringLiteral (raw_text (chars_at s p.offset)) d d) (sym f)
-            (from_one _ _ quotes s p q c r x (omega arith) _ _ kind.UnterminatedRawString refl g);
+            (from_one _ _ quotes s p q c r x (omega arith) _ _ _ g);
         made = subst (λ (bs : List ℕ). Put texts texts' ut bs nt) (inner_part _ _ quotes s p q c r x) m;
         written = subst (λ (l : List TokenizeError). Put errors errors' ue (error_bytes l) ne) (sym es) n;
         open_end = from_open _ _ quotes s p q c r x (omega arith) _ _ _ g;
@@ -186,7 +186,7 @@ module _ (s : List ℕ) (p q : Position) (c : Closing) where
         part = inner_part _ _ star_slash s p q c r x;
         one = subst (λ (d : Position). OneToken s p DocComment (clean_doc (chars_of (slice q.offset c.at.offset s))) d d) (sym f)
             (subst (λ (l : Text). OneToken s p DocComment (clean_doc l) (behind_mark c 2) (behind_mark c 2)) (sym t)
-            (from_one _ _ star_slash s p q c r x (omega arith) _ _ kind.UnterminatedDocComment refl g));
+            (from_one _ _ star_slash s p q c r x (omega arith) _ _ _ g));
         written = subst (λ (l : List TokenizeError). Put errors errors' ue (error_bytes l) ne) (sym es) n;
         open_end = from_open _ _ star_slash s p q c r x (omega arith) _ _ _ g;
         forth = reach_on s q c.at _ x.reach;

@@ -39,7 +39,8 @@ pub fn put_bytes(part: &[u8], buf: &mut [u8], at: usize) -> usize
     end
 }
 
-// A character as UTF-8.
+// A character as UTF-8. This and the two below have one shape: a trait of what is written, with its bytes and three impls, would be longer
+// than the three bodies.
 pub fn put_char(c: u32, buf: &mut [u8], at: usize) -> usize
     requires c_bound { c ≤ 0x10FFFF }
     requires at_bound { at ≤ PLACES }

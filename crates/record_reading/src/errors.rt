@@ -9,7 +9,8 @@ use records::errors::ErrorKind;
 use records::{fields, kinds};
 use refusals::Refusal;
 
-// Whether a whole error record of a known kind starts at a place.
+// Whether a whole error record of a known kind starts at a place: `is_whole` with the other kinds. A function of both would take the kinds'
+// two functions as closures, and be no shorter.
 pub fn is_whole_error(s: &[u8], at: usize) -> bool
     ensures { result ≡ is_whole_error s.now at }
 {

@@ -2,7 +2,8 @@
 use super::errors::ErrorKind;
 use spans::Span;
 
-// A token's record. The text's offset and length are 0 where the kind carries none.
+// A token's record. The text's offset and length are 0 where the kind carries none: an Option would say again what the kind fixes, and cost
+// a test for each token.
 #[derive(Clone, Copy)]
 pub struct TokenRecord {
     pub kind: u8,

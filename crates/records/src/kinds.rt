@@ -68,7 +68,7 @@ pub fn has_code(kind: u8) -> bool
     kind == UNEXPECTED_CHARACTER || kind == BAD_ESCAPE
 }
 
-// The bytes of an error's record.
+// The bytes of an error's record. Tokens and errors have kinds of their own, so that one function would take the test as a closure.
 pub fn error_length(kind: u8) -> usize
     ensures { result ≡ error_length kind }
 {
