@@ -9,14 +9,13 @@ use doc_lines::Line;
 const LINE_FEED: u32 = b'\n' as u32;
 
 // Where the walk over the lines stands: a line that has still to be given, if it is not empty, behind the line feeds that wait before
-// it; the place of the line after it; and whether there is none.
+// it; and the place of the line after it, if there is one.
 #[derive(Clone, Copy)]
 pub struct Cursor {
     pub from: usize,
     pub to: usize,
     pub feeds: usize,
-    pub next: usize,
-    pub last: bool,
+    pub next: Option<usize>,
 }
 
 fn at_line(l: Line, feeds: usize) -> Cursor
@@ -27,7 +26,6 @@ fn at_line(l: Line, feeds: usize) -> Cursor
         to: l.to,
         feeds,
         next: l.next,
-        last: l.last,
     }
 }
 
@@ -41,11 +39,11 @@ fn past_empty(part: &[u8], c: Cursor) -> Cursor
         if at.from < at.to {
             return at;
         }
-        if at.last {
+        let Some(next) = at.next else {
             return at;
-        }
+        };
         let feeds = docs::feeds_after(at.feeds, true);
-        let l = doc_lines::line_at(part, at.next);
+        let l = doc_lines::line_at(part, next);
         at = at_line(l, feeds);
     }
 }
@@ -63,14 +61,14 @@ fn behind_line(part: &[u8], c: Cursor) -> Cursor
     requires { GoodCursor part.now c }
     ensures { BehindLine part.now c result }
 {
-    if c.last {
+    let Some(next) = c.next else {
         return Cursor {
             from: c.to,
             feeds: 0,
             ..c
         };
-    }
-    let l = doc_lines::line_at(part, c.next);
+    };
+    let l = doc_lines::line_at(part, next);
     past_empty(part, at_line(l, 1))
 }
 
