@@ -7,10 +7,9 @@ ghost use Rattle.steps.specs.Step.{begin};
 ghost use Rattle.list_loop.specs.Run.{Ran, nothing_used};
 
 use questions::script::Script;
-use records::answers::TokenRecord;
 use room::Used;
 use scanner::step;
-use steps::{Cursor, Fill, Step, Token, Within};
+use steps::{Cursor, Fill, Step, Within};
 use words::Tables;
 
 // The cursor at the beginning of a text: at its first line and column, outside of strings.
@@ -36,18 +35,6 @@ fn nothing() -> Used
     }
 }
 
-// What a token's record holds.
-fn record_of(t: Token) -> TokenRecord
-    ensures { result ≡ record { kind = t.kind; span = t.span; offset = t.offset; length = t.length } }
-{
-    TokenRecord {
-        kind: t.kind,
-        span: t.span,
-        offset: t.offset,
-        length: t.length,
-    }
-}
-
 // The list loop: each token's record, text and errors, as far as the buffers hold them, and what all of them take.
 pub fn run(script: Script<'_>, tokens: &mut [u8], texts: &mut [u8], errors: &mut [u8]) -> Used
     ensures { Ran script.entry.bytes.now tokens.old texts.old errors.old result tokens.new texts.new errors.new }
@@ -70,12 +57,12 @@ pub fn run(script: Script<'_>, tokens: &mut [u8], texts: &mut [u8], errors: &mut
         ) else {
             break;
         };
-        let used = output::put_token(tokens, u.tokens, record_of(t));
+        let used = output::put_token(tokens, u.tokens, t.fields);
         let count = u.count + 1;
         u = Used {
             tokens: used,
-            texts: t.texts,
-            errors: t.errors,
+            texts: t.fill.texts,
+            errors: t.fill.errors,
             count: count,
             closed: u.closed & !t.ran_out,
         };
