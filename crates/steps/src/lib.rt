@@ -28,7 +28,7 @@ pub struct Fill {
 }
 
 // A token: what its record holds, the bytes used in the text buffer and in the error buffer behind it, and whether the text ran
-// out in it.
+// out in it. The token counts either way, so the flag is no Option.
 #[derive(Clone, Copy)]
 pub struct Token {
     pub kind: u8,
@@ -40,7 +40,7 @@ pub struct Token {
     pub ran_out: bool,
 }
 
-// A token and the next cursor, or the end.
+// A token and the next cursor, or the end: no Option of a pair, since document 01 names this form ("Each place and its form").
 #[derive(Clone, Copy)]
 pub enum Step {
     Token(Token, Cursor),
