@@ -17,7 +17,8 @@ use rules::kinds;
 use spans::Position;
 use walks::{Closing, error, walk};
 
-// A token, the next cursor, whether the text ran out in the token, and how many bytes of the two buffers are used then.
+// A token, the next cursor, whether the text ran out in the token, and how many bytes of the two buffers are used then. The token
+// counts either way, so the flag is no Option.
 #[derive(Clone, Copy)]
 pub struct Given {
     pub token: TokenRecord,
@@ -50,7 +51,7 @@ pub fn past_interpolation(text: &[u8], p: Position) -> Closing
     }
 }
 
-// Writes the brace that is missing where the text ran out.
+// Writes the brace that is missing where the text ran out: one byte or none, as the walk says. A closure would be no plainer.
 fn put_brace(found: bool, texts: &mut [u8], at: usize) -> usize
     requires { at ≤ PLACES }
     ensures { Put texts.old texts.new at (missing found) result }

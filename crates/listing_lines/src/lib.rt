@@ -55,7 +55,7 @@ pub fn put_error(r: ErrorRecord, buf: &mut [u8], at: usize) -> usize
     put_byte(buf, q, b'\n')
 }
 
-// `closed` or `open`.
+// `closed` or `open`: the flag is the answer that the line tells.
 pub fn put_closed(closed: bool, buf: &mut [u8], at: usize) -> usize
     requires { Room at (closed_line closed) }
     ensures { Put buf.old buf.new at (closed_line closed) result }

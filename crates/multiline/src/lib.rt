@@ -16,7 +16,7 @@ use spans::Position;
 use walks::{error, walk};
 
 // A token whose text was written: the position behind it, the places after its text and its errors, and whether the text ran out
-// in it.
+// in it. The token counts either way, so that flag is no Option, here and below.
 #[derive(Clone, Copy)]
 pub struct Made {
     pub at: Position,

@@ -21,7 +21,8 @@ const LINE_FEED: u32 = b'\n' as u32;
 // The column behind a line feed that is skipped, as in the Rust (lexer.rs, lines 350 to 355).
 const SKIPPED_LINE_COLUMN: usize = 2;
 
-// The position behind what was skipped, the place after its errors, and whether the text ran out in it.
+// The position behind what was skipped, the place after its errors, and whether the text ran out in it. The position counts either
+// way, so the flag is no Option.
 #[derive(Clone, Copy)]
 pub struct Skipped {
     pub at: Position,

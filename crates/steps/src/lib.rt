@@ -28,7 +28,8 @@ pub struct Fill {
     pub errors: usize,
 }
 
-// A token: the fields of its record, how far the two buffers are filled behind it, and whether the text ran out in it.
+// A token: the fields of its record, how far the two buffers are filled behind it, and whether the text ran out in it. The token counts
+// either way, so the flag is no Option.
 #[derive(Clone, Copy)]
 pub struct Token {
     pub fields: TokenRecord,
@@ -36,7 +37,7 @@ pub struct Token {
     pub ran_out: bool,
 }
 
-// A token and the next cursor, or the end.
+// A token and the next cursor, or the end: no Option of a pair, since document 01 names this form ("Each place and its form").
 #[derive(Clone, Copy)]
 pub enum Step {
     Token(Token, Cursor),

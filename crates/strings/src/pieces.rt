@@ -15,7 +15,8 @@ use string_runs::Run;
 use string_units::{LINE_FEED, QUOTE};
 use walks::error;
 
-// The literal from `start` to `end` whose text stands in the texts from a place on, up to where the run `r` left off.
+// The literal from `start` to `end` whose text stands in the texts from a place on, up to where the run `r` left off. The flag
+// `ran_out` goes into the token, which counts either way.
 fn literal(
     start: Position,
     end: Position,
@@ -44,7 +45,8 @@ fn literal(
     })
 }
 
-// The step at p, inside the string that began at `start`; `first` is whether the string has only begun.
+// The step at p, inside the string that began at `start`; `first` is whether the string has only begun: an empty literal is then a
+// token. It is a flag and no second function, since all else is the same.
 pub fn piece(
     text: &[u8],
     p: Position,
