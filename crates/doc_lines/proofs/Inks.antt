@@ -1,22 +1,20 @@
 -- Walks past ASCII characters that are no white space. Assumes nothing.
 use Rattle.std.specs.Prelude.{if◌then◌else◌}
-use mathlib.Core.Path.{◌≡◌, refl, sym, ◌∙◌, ap, subst}
-use mathlib.Core.Bool.{Bool, true, false, true≢false, and-false}
+use mathlib.Core.Path.{◌≡◌, sym, ◌∙◌, ap, subst}
+use mathlib.Core.Bool.{Bool, true, false, and-false}
 use mathlib.Core.List.{List}
 use mathlib.Core.Logic.{⊎_elim}
 use Prim.Native.Nat.{ℕ, zero, suc, ◌+◌, ◌-◌, ◌≤◌, ◌<◌}
 use native.Mathlib.Omega.{arith}
-use lib.Dec.{leb, ltb}
+use lib.Dec.{ltb}
 use lib.ListN.{length, get_or}
-use borrow.Author.Tests.{lt-ltb, le-ltb, leb-true, leb-false, ne_eqb, eq-eqb, eqb-true}
-use Rattle.characters.specs.Choice.{◌is◌}
+use borrow.Author.Tests.{lt-ltb, le-ltb, ne_eqb}
 use Rattle.characters.specs.Space.{is_white}
 use Rattle.characters.proofs.Choice.{within_bounds, le_or_lt}
 use Rattle.characters.proofs.Spaces.{white_ink}
-use Rattle.characters.proofs.Characters.{chars_past_lem}
 use Rattle.rules.specs.Text.{Char, LF}
-use Rattle.doc_lines.specs.Lines.{CharAt, Skipped, in_line, is_blank, is_ink, Inked, stops_at}
-use Rattle.doc_lines.proofs.Places.{Skipping, skip_end, skip_stop, Ending, ending_more, byte_here, blank_ends}
+use Rattle.doc_lines.specs.Lines.{CharAt, in_line, is_blank, is_ink, Inked}
+use Rattle.doc_lines.proofs.Places.{Ending, ending_more, byte_here}
 
 -- ── One of them ──
 
@@ -35,11 +33,6 @@ ink_in split c e = let b = (ink_bounds c e).0 in let n : c ≡ LF → ⊥ = λ f
 ink_no : (split : Bool) (c : Char) → is_ink c ≡ true → is_blank split c ≡ false
 unfolding is_blank
 ink_no split c e = rw (ink_solid c e)
-
--- A line feed, where the part is split.
-feed_out : (split : Bool) (c : Char) → c ≡ LF → split ≡ true → in_line split c ≡ false
-unfolding in_line
-feed_out split c e g = rw (g, eq-eqb c LF e)
 
 ink_here : (s : List ℕ) (at : ℕ) → at < length s → is_ink (get_or s at 0) ≡ true → CharAt s at (get_or s at 0) (at + 1)
 ink_here s at h e = byte_here s at h (omega (arith, (ink_bounds (get_or s at 0) e).1))
@@ -79,28 +72,3 @@ module _ (split : Bool) (s : List ℕ) (from : ℕ) where
           let f : end ≡ q = e ∙ ap (λ (b : Bool). if b then q else to) (lt-ltb at q l) in
           rw f (subst (λ (m : ℕ). Ending (in_line split) s from m m) g
           (ink_passed n at to (omega (arith, i.inside)) (λ j a b. sym (i.passed j a (omega arith))) k))
-
--- ── Where no white space stands ──
-
-module _ (split : Bool) (s : List ℕ) (from at : ℕ) (k : Skipping (is_blank split) s from at) where
-  pub stops_blank : stops_at split s at ≡ true → Skipped (is_blank split) s from at
-  unfolding stops_at
-  stops_blank e = go (leb (length s) at) refl
-    where
-      feed : (b : Bool) → split ≡ b → at < length s → (if b then (get_or s at 0 is LF) else false) ≡ true → Skipped (is_blank split) s from at
-      feed true g h f =
-          let c = eqb-true (get_or s at 0) LF f in
-          skip_stop (is_blank split) s from at k (get_or s at 0) (at + 1) (byte_here s at h (omega arith))
-          (sym (blank_ends split (get_or s at 0) (feed_out split (get_or s at 0) c g)))
-      feed false g h f = absurd (true≢false (sym f))
-
-      ink : (b : Bool) → is_ink (get_or s at 0) ≡ b → at < length s
-          → (if b then true else (if split then (get_or s at 0 is LF) else false)) ≡ true → Skipped (is_blank split) s from at
-      ink true g h f = skip_stop (is_blank split) s from at k (get_or s at 0) (at + 1) (ink_here s at h g) (ink_no split (get_or s at 0) g)
-      ink false g h f = feed split refl h f
-
-      go : (b : Bool) → leb (length s) at ≡ b → Skipped (is_blank split) s from at
-      go true g = skip_end (is_blank split) s from at k (chars_past_lem s at (leb-true (length s) at g))
-      go false g = ink (is_ink (get_or s at 0)) refl (leb-false (length s) at g)
-          (subst
-          (λ (b : Bool). (if b then true else (if is_ink (get_or s at 0) then true else (if split then (get_or s at 0 is LF) else false))) ≡ true) g e)

@@ -1,5 +1,5 @@
 -- Walks over the characters of a part, by places. Assumes nothing.
-use Rattle.std.specs.Prelude.{if◌then◌else◌}
+use Rattle.std.specs.Prelude.{if◌then◌else◌, Option, Some, None, is_some}
 use mathlib.Core.Path.{◌≡◌, refl, sym, ◌∙◌, ap}
 use mathlib.Core.Bool.{Bool, true, false, ◌&&◌, not, and-false, and-true, true≢false, false≢true}
 use mathlib.Core.List.{List, [], ◌∷◌, ◌++◌, append-nil, append_assoc}
@@ -40,17 +40,17 @@ pub byte_here : (s : List ℕ) (at : ℕ) → at < length s → get_or s at 0 < 
 byte_here s at h l = char_here s at (get_or s at 0) 1 (decode_ascii s at h (omega arith))
 
 -- The tests of a character.
-pub ends_split : (split : Bool) (c : Char) → split ≡ true → c is LF ≡ not (in_line split c)
+pub ends_feed : (c : Char) → c is LF ≡ not (in_line true c)
 unfolding in_line
-ends_split split c e = rw e (sym (not_not (c is LF)))
+ends_feed c = sym (not_not (c is LF))
   where
     not_not : (b : Bool) → not (not b) ≡ b
     not_not true = refl
     not_not false = refl
 
-pub ends_never : (split : Bool) (c : Char) → split ≡ false → false ≡ not (in_line split c)
+pub ends_never : (c : Char) → false ≡ not (in_line false c)
 unfolding in_line
-ends_never split c e = rw e
+ends_never c = refl
 
 -- What a test says that says whether a character ends the line.
 pub in_line_lem : (b x : Bool) → x ≡ not b → x ≡ false → b ≡ true
@@ -125,6 +125,14 @@ module _ (p : Char → Bool) (s : List ℕ) (from : ℕ) where
 
 -- ── The line from a place on ──
 
+-- The place of the next line.
+same_place : (m n : ℕ) → Some m ≡ Some n → m ≡ n
+same_place m n e = ap (place m) e
+  where
+    place : ℕ → Option ℕ → ℕ
+    place n None = n
+    place n (Some m) = m
+
 -- Only a line feed ends a line.
 not_in : (b : Bool) → not b ≡ false → b ≡ true
 not_in true e = refl
@@ -171,7 +179,7 @@ module _ (split : Bool) (s : List ℕ) (from : ℕ) where
     at_none : chars_at s at ≡ [] → run (in_line split) (chars_at s at) ≡ nothing []
     at_none e = ap (run (in_line split)) e ∙ run_none (in_line split)
 
-    pub ending_end : chars_at s at ≡ [] → LineAt trim_end split s from (record { from = from; to = to; next = at; last = true })
+    pub ending_end : chars_at s at ≡ [] → LineAt trim_end split s from (record { from = from; to = to; next = None })
     ending_end e =
         record {
           text = k.kept ∙ ap (λ (t : Text). encode (trim_end t)) (sym (ended_taken (at_none e)));
@@ -179,8 +187,8 @@ module _ (split : Bool) (s : List ℕ) (from : ℕ) where
           begins = omega arith;
           forth = k.forth;
           inside = omega (arith, k.behind, k.inside);
-          goes = λ h. absurd (true≢false h);
-          within = k.inside;
+          goes = λ n h. absurd (false≢true (ap is_some h));
+          within = λ n h. absurd (false≢true (ap is_some h));
         }
 
     module _ (c n : ℕ) (a : CharAt s at c n) where
@@ -192,7 +200,7 @@ module _ (split : Bool) (s : List ℕ) (from : ℕ) where
       at_more e = ap (run (in_line split)) a.chars ∙ run_yes (in_line split) c (chars_at s n) e
 
       -- A line feed.
-      pub ending_feed : in_line split c ≡ false → LineAt trim_end split s from (record { from = from; to = to; next = n; last = false })
+      pub ending_feed : in_line split c ≡ false → LineAt trim_end split s from (record { from = from; to = to; next = Some n })
       ending_feed e =
           record {
             text = k.kept ∙ ap (λ (t : Text). encode (trim_end t)) (sym (ended_taken (at_stop e)));
@@ -200,8 +208,8 @@ module _ (split : Bool) (s : List ℕ) (from : ℕ) where
             begins = omega arith;
             forth = k.forth;
             inside = omega (arith, k.behind, k.inside);
-            goes = λ _. omega (arith, k.behind, a.place, width_bounds c);
-            within = a.inside;
+            goes = λ m h. omega (arith, k.behind, a.place, width_bounds c, same_place n m h);
+            within = λ m h. omega (arith, a.inside, same_place n m h);
           }
 
       -- A character of the line.
@@ -285,6 +293,10 @@ blank_same : (split : Bool) (c : Char) → is_blank split c ≡ is_white c && in
 unfolding is_blank
 blank_same split c = refl
 
+white_same : (c : Char) → is_white c ≡ is_white c && in_line false c
+unfolding in_line
+white_same c = sym (and-true (is_white c))
+
 -- A star is no line feed.
 star_same : (split : Bool) (c : Char) → is_star c ≡ is_star c && in_line split c
 unfolding in_line is_star
@@ -321,10 +333,10 @@ whole_line [] = refl
 whole_line (c ∷ cs) = ap (λ (t : Text). c ∷ t) (whole_line cs)
 
 -- White space in front, and the end trimmed: the part is trimmed.
-pub part_trim : (s : List ℕ) (from : ℕ) (l : Line) → Skipped (is_blank false) s 0 from → LineAt trim_end false s from l
+pub part_trim : (s : List ℕ) (from : ℕ) (l : Line) → Skipped is_white s 0 from → LineAt trim_end false s from l
     → slice l.from l.to s ≡ encode (trim (chars_of s))
 unfolding trim
 part_trim s from l f e =
-    (line_then (is_blank false) is_white trim_end false s 0 from l (blank_same false) f e).text
+    (line_then is_white is_white trim_end false s 0 from l white_same f e).text
     ∙ ap (λ (t : Text). encode (trim_end (run is_white t).left)) (whole_line (chars_at s 0) ∙ chars_start s)
     ∙ ap (λ (t : Text). encode (trim_end t)) (sym (start_run (chars_of s)))

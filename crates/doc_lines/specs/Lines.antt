@@ -1,6 +1,6 @@
 -- What the functions of the doc comments' cleaner answer. `s` is the part of a script between a comment's marks; places are bytes
 -- of it.
-use Rattle.std.specs.Prelude.{◌≡◌, Bool, true, false, ◌&&◌, not, List, [], ◌∷◌, ℕ, ◌+◌, ◌≤◌, ◌<◌, leb, length, get_or, if◌then◌else◌, Option, Some, None}
+use Rattle.std.specs.Prelude.{◌≡◌, Bool, ◌&&◌, not, List, [], ◌∷◌, ℕ, ◌+◌, ◌≤◌, ◌<◌, length, Option, Some, None}
 use Rattle.std.proofs.Math.Seq.{slice}
 use Rattle.characters.specs.Choice.{◌is◌, within}
 use Rattle.characters.specs.Space.{is_white}
@@ -27,6 +27,14 @@ pub record Skipped (test : Char → Bool) (s : List ℕ) (from to : ℕ) : Type 
   pub forth : from ≤ to
   pub inside : to ≤ length s
 
+-- `Answers` tells which characters pass the test.
+abbrev pub Tells : (ℕ → Bool → Type 0) → (Char → Bool) → Type 0
+Tells Answers test = (c : Char) (b : Bool) → Answers c b → b ≡ test c
+
+-- The same, of any test that `Answers` tells.
+abbrev pub SkippedTold : (ℕ → Bool → Type 0) → List ℕ → ℕ → ℕ → Type 0
+SkippedTold Answers s from to = (test : Char → Bool) → Tells Answers test → Skipped test s from to
+
 unfoldable pub is_star : Char → Bool
 is_star c = c is ch "*"
 
@@ -46,21 +54,21 @@ is_ink c = within 0x21 0x7F c
 abbrev pub Inked : List ℕ → ℕ → ℕ → Type 0
 Inked = RunTo (λ b r. r ≡ is_ink b)
 
--- No white space of a line stands at a place: the part ends there, or such a character stands there, or a line feed that ends the
--- line.
-unfoldable pub stops_at : Bool → List ℕ → ℕ → Bool
-stops_at split s at =
-    if leb (length s) at then true
-    else if is_ink (get_or s at 0) then true
-    else if split then (get_or s at 0 is LF)
-    else false
+-- What stands behind a line: nothing; or the line feed that ended it, and the characters from the next line on.
+abbrev pub behind_line : List ℕ → Option ℕ → Text
+behind_line s None = []
+behind_line s (Some n) = LF ∷ chars_at s n
 
--- The line from a place on, made clean: the bytes that make it up, and where the next line begins.
+-- The line from a place on, made clean: the bytes that make it up, and where the next line begins, if there is one.
 pub record LineAt (clean : Text → Text) (split : Bool) (s : List ℕ) (at : ℕ) (l : Line) : Type 0 where
   pub text : slice l.from l.to s ≡ encode (clean (run (in_line split) (chars_at s at)).taken)
-  pub left : (run (in_line split) (chars_at s at)).left ≡ (if l.last then [] else (LF ∷ chars_at s l.next))
+  pub left : (run (in_line split) (chars_at s at)).left ≡ behind_line s l.next
   pub begins : at ≤ l.from
   pub forth : l.from ≤ l.to
   pub inside : l.to ≤ length s
-  pub goes : l.last ≡ false → l.to < l.next
-  pub within : l.next ≤ length s
+  pub goes : (n : ℕ) → l.next ≡ Some n → l.to < n
+  pub within : (n : ℕ) → l.next ≡ Some n → n ≤ length s
+
+-- The same, where `Answers` tells which characters end a line: line feeds, or none.
+abbrev pub LineTold : (ℕ → Bool → Type 0) → (Text → Text) → List ℕ → ℕ → Line → Type 0
+LineTold Answers clean s at l = (split : Bool) → Tells Answers (λ c. not (in_line split c)) → LineAt clean split s at l

@@ -4,19 +4,18 @@
 ghost use Rattle.std.specs.Prelude.{◌≡◌, true, not, ◌≤◌, ltb, length, if◌then◌else◌};
 ghost use Rattle.characters.specs.Space.{is_white};
 ghost use Rattle.rules.specs.Docs.{trim_end, clean_line};
-ghost use Rattle.doc_lines.specs.Lines.{NextAt, Skipped, in_line, is_star, is_blank, is_ink, Inked, stops_at, LineAt};
+ghost use Rattle.doc_lines.specs.Lines.{NextAt, SkippedTold, in_line, is_blank, is_ink, Inked, LineAt, LineTold};
 
 use characters::{Decoded, LINE_FEED, space, utf8};
 
 const STAR: u32 = b'*' as u32;
 
-// A line is part[from..to]. The next one begins at `next`, unless it is the last.
+// A line is part[from..to]. The next one begins at `next`, if there is one.
 #[derive(Clone, Copy)]
 pub struct Line {
     pub from: usize,
     pub to: usize,
-    pub next: usize,
-    pub last: bool,
+    pub next: Option<usize>,
 }
 
 // What stands at a place of the part: a character, and the place after it; or nothing.
@@ -38,21 +37,18 @@ fn char_at(part: &[u8], at: usize) -> Option<(u32, usize)>
     }
 }
 
-// Whether a character ends the line. Where the part is not split into lines, none does.
-fn ends_line(split: bool, c: u32) -> bool
-    ensures { result ≡ not (in_line split c) }
+// Whether a character ends a line of a block.
+fn ends_line(c: u32) -> bool
+    ensures { result ≡ not (in_line true c) }
 {
-    split && c == LINE_FEED
+    c == LINE_FEED
 }
 
-// White space of a line.
-fn is_blank(split: bool, c: u32) -> bool
-    ensures { result ≡ is_blank split c }
+// White space of such a line.
+fn is_blank(c: u32) -> bool
+    ensures { result ≡ is_blank true c }
 {
-    if ends_line(split, c) {
-        return false;
-    }
-    space::is_white(c)
+    !ends_line(c) && space::is_white(c)
 }
 
 // An ASCII character that is no white space.
@@ -70,55 +66,21 @@ fn past_ink(part: &[u8], from: usize) -> usize
     runs::past(part, from, is_ink)
 }
 
-// Whether no white space of a line stands at a place, as its first byte tells.
-fn stops(part: &[u8], at: usize, split: bool) -> bool
-    ensures { result ≡ stops_at split part.now at }
+// Past the characters from a place on that pass a test.
+pub fn past_chars<F: Fn(u32) -> bool>(part: &[u8], from: usize, test: F) -> usize
+    requires inside { from ≤ length part.now }
+    requires callable { F.IsAlwaysCallable test }
+    ensures inside { result ≤ length part.now }
+    ensures passed { SkippedTold (F.post test) part.now from result }
 {
-    if part.len() <= at {
-        return true;
-    }
-    let b = part[at];
-    if is_ink(b) {
-        return true;
-    }
-    split && b == b'\n'
-}
-
-// Past the white space of a line.
-pub fn past_blanks(part: &[u8], from: usize, split: bool) -> usize
-    requires { from ≤ length part.now }
-    ensures { Skipped (is_blank split) part.now from result }
-{
-    let mut at = from;
-    loop {
-        if stops(part, at, split) {
-            return at;
+    let mut place = from;
+    while let Some((c, next)) = char_at(part, place) {
+        if !test(c) {
+            return place;
         }
-        let Some((c, next)) = char_at(part, at) else {
-            return at;
-        };
-        if !is_blank(split, c) {
-            return at;
-        }
-        at = next;
+        place = next;
     }
-}
-
-// Past stars.
-fn past_stars(part: &[u8], from: usize) -> usize
-    requires { from ≤ length part.now }
-    ensures { Skipped is_star part.now from result }
-{
-    let mut at = from;
-    loop {
-        let Some((c, next)) = char_at(part, at) else {
-            return at;
-        };
-        if c != STAR {
-            return at;
-        }
-        at = next;
-    }
+    place
 }
 
 // Where the text ends that is kept of a line: a character that is no white space moves it to the place after itself.
@@ -135,10 +97,11 @@ fn ink_end(at: usize, q: usize, to: usize) -> usize
     if at < q { q } else { to }
 }
 
-// The line from a place on, without white space at its end.
-pub fn trimmed_line(part: &[u8], from: usize, split: bool) -> Line
-    requires { from ≤ length part.now }
-    ensures { LineAt trim_end split part.now from result }
+// The line from a place on, without white space at its end. `ends` says which characters end a line.
+pub fn trimmed_line<E: Fn(u32) -> bool>(part: &[u8], from: usize, ends: E) -> Line
+    requires inside { from ≤ length part.now }
+    requires callable { E.IsAlwaysCallable ends }
+    ensures { LineTold (E.post ends) trim_end part.now from result }
 {
     let mut at = from;
     let mut to = from;
@@ -149,16 +112,14 @@ pub fn trimmed_line(part: &[u8], from: usize, split: bool) -> Line
             return Line {
                 from,
                 to: end,
-                next: q,
-                last: true,
+                next: None,
             };
         };
-        if ends_line(split, c) {
+        if ends(c) {
             return Line {
                 from,
                 to: end,
-                next,
-                last: false,
+                next: Some(next),
             };
         }
         to = kept_end(c, end, next);
@@ -166,13 +127,13 @@ pub fn trimmed_line(part: &[u8], from: usize, split: bool) -> Line
     }
 }
 
-// The line that begins at a place, cleaned.
+// The line of a block that begins at a place, cleaned.
 pub fn line_at(part: &[u8], at: usize) -> Line
     requires { at ≤ length part.now }
     ensures { LineAt clean_line true part.now at result }
 {
-    let a = past_blanks(part, at, true);
-    let b = past_stars(part, a);
-    let from = past_blanks(part, b, true);
-    trimmed_line(part, from, true)
+    let a = past_chars(part, at, is_blank);
+    let b = past_chars(part, a, |c| c == STAR);
+    let from = past_chars(part, b, is_blank);
+    trimmed_line(part, from, ends_line)
 }

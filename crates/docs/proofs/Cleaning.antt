@@ -1,5 +1,5 @@
 -- The cleaned text written line by line. Assumes nothing.
-use Rattle.std.specs.Prelude.{if◌then◌else◌}
+use Rattle.std.specs.Prelude.{Option, Some, None}
 use mathlib.Core.Path.{◌≡◌, refl, sym, ◌∙◌, ap, subst}
 use mathlib.Core.Bool.{Bool, true, false}
 use mathlib.Core.List.{List, [], ◌∷◌, ◌++◌, map}
@@ -20,8 +20,8 @@ use Rattle.rules.specs.Scan.{run}
 use Rattle.rules.specs.Docs.{clean_line, clean_doc}
 use Rattle.output.specs.Writing.{Put}
 use Rattle.output.proofs.Buffers.{put_length, put_none, put_then, Writing, write_start, write_more, write_end}
-use Rattle.doc_lines.specs.Lines.{in_line, LineAt}
-use Rattle.docs.specs.Texts.{line_text, feeds_after, lines_text, Written}
+use Rattle.doc_lines.specs.Lines.{in_line, behind_line, LineAt}
+use Rattle.docs.specs.Texts.{line_text, feeds_after, lines_text, lines_from, Written}
 use Rattle.doc_lines.specs.declared.Line.{Line}
 use Rattle.docs.proofs.Joining.{more_lines, lines_first, clean_lines, clean_text}
 
@@ -156,12 +156,14 @@ module _ (s : List ℕ) (at : ℕ) (l : Line) (a : LineAt clean_line true s at l
   line = clean_line (run (in_line true) (chars_at s at)).taken
 
   abbrev rest : List Text
-  rest = if l.last then [] else clean_lines (chars_at s l.next)
+  rest = lines_from s l.next
 
   rest_lines : map clean_line (more_lines (run (in_line true) (chars_at s at)).left) ≡ rest
-  rest_lines =
-      ap (λ (t : Text). map clean_line (more_lines t)) a.left
-      ∙ if_both (λ (x : Text) (y : List Text). map clean_line (more_lines x) ≡ y) l.last (λ _. refl) (λ _. refl)
+  rest_lines = ap (λ (t : Text). map clean_line (more_lines t)) a.left ∙ go l.next
+    where
+      go : (next : Option ℕ) → map clean_line (more_lines (behind_line s next)) ≡ lines_from s next
+      go None = refl
+      go (Some n) = refl
 
   line_empty : is_empty line ≡ (l.from is l.to)
   unfolding line
@@ -214,11 +216,11 @@ module _ (s old b : List ℕ) (at place k end : ℕ) (w : Cleaning s old b at pl
   clean_size = put_length b c end r (line_text k (slice l.from l.to s)) p ∙ w.writing.size
 
   -- The last line is written.
-  pub clean_last : l.last ≡ true → Written s old c at (clean_doc (chars_of s)) r
+  pub clean_last : l.next ≡ None → Written s old c at (clean_doc (chars_of s)) r
   unfolding lines_text encode
   clean_last e =
       let q = w.small in
-      let f : rest s place l a ≡ [] = rw e in
+      let f : rest s place l a ≡ [] = ap (lines_from s) e in
       record {
         put =
             write_end old c at r (whole s)
@@ -227,14 +229,14 @@ module _ (s old b : List ℕ) (at place k end : ℕ) (w : Cleaning s old b at pl
       }
 
   -- One line more is written.
-  pub clean_more : (k' : ℕ) → l.last ≡ false → k' ≡ feeds_after k (l.from is l.to) → Cleaning s old c at l.next k' r
-  clean_more k' e f =
+  pub clean_more : (n k' : ℕ) → l.next ≡ Some n → k' ≡ feeds_after k (l.from is l.to) → Cleaning s old c at n k' r
+  clean_more n k' e f =
       let q = w.small in
-      let g : rest s place l a ≡ clean_lines (chars_at s l.next) = rw e in
+      let g : rest s place l a ≡ clean_lines (chars_at s n) = ap (lines_from s) e in
       record {
         writing =
             rw f
             (subst (λ (ls : List Text). Writing old c at r (ahead (feeds_after k (l.from is l.to)) ls) (whole s)) g next_writing);
-        small = omega (arith, f, p.place, a.begins, a.forth, a.goes e, line_room s l.from l.to k a.forth a.inside);
-        inside = a.within;
+        small = omega (arith, f, p.place, a.begins, a.forth, a.goes n e, line_room s l.from l.to k a.forth a.inside);
+        inside = a.within n e;
       }

@@ -10,6 +10,7 @@ ghost use Rattle.rules.specs.Docs.{trim, clean_doc};
 ghost use Rattle.output.specs.Writing.{Put, PLACES};
 ghost use Rattle.docs.specs.Texts.{LARGEST, line_text, feeds_after, Written};
 
+use characters::space;
 use doc_lines::Line;
 
 // So many line feeds.
@@ -59,8 +60,8 @@ pub fn trim_text(part: &[u8], texts: &mut [u8], at: usize) -> usize
     requires { at + length part.now ≤ PLACES }
     ensures { Written part.now texts.old texts.new at (trim (chars_of part.now)) result }
 {
-    let start = doc_lines::past_blanks(part, 0, false);
-    let l = doc_lines::trimmed_line(part, start, false);
+    let start = doc_lines::past_chars(part, 0, space::is_white);
+    let l = doc_lines::trimmed_line(part, start, |_| false);
     output::put_bytes(&part[l.from..l.to], texts, at)
 }
 
@@ -75,10 +76,10 @@ pub fn clean_doc(part: &[u8], texts: &mut [u8], at: usize) -> usize
     loop {
         let l = doc_lines::line_at(part, place);
         end = put_line(part, l, feeds, texts, end);
-        if l.last {
+        let Some(next) = l.next else {
             return end;
-        }
+        };
         feeds = feeds_after(feeds, l.from == l.to);
-        place = l.next;
+        place = next;
     }
 }

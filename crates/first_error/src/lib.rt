@@ -1,10 +1,11 @@
 // Where the first error of a script starts.
 #![tactic(auto)]
 
-ghost use Rattle.std.specs.Prelude.{◌≡◌, true};
-ghost use Rattle.rules.specs.Script.{accepted, script_errors};
+ghost use Rattle.std.specs.Prelude.{◌≡◌};
+ghost use Rattle.rules.specs.Script.{script_errors};
 ghost use Rattle.first_error.specs.First.{first_start};
 
+use questions::script::Script;
 use record_reading::read::get32;
 use records::fields::LONGEST_ERROR;
 
@@ -12,9 +13,8 @@ use records::fields::LONGEST_ERROR;
 const START: usize = 1;
 
 // The start of the first error that is recorded, from the list loop over an error buffer of one record; 0 where there is none.
-pub fn first_start(script: &[u8]) -> usize
-    requires { accepted script.now ≡ true }
-    ensures { result ≡ first_start (script_errors script.now) }
+pub fn first_start(script: Script<'_>) -> usize
+    ensures { result ≡ first_start (script_errors script.entry.bytes.now) }
 {
     let mut tokens = [0u8; 0];
     let mut texts = [0u8; 0];

@@ -12,7 +12,7 @@ use lib.Seq.{sets, sets-eq}
 use Rattle.byte_order_mark.specs.Mark.{mark_length, after_mark}
 use Rattle.characters.proofs.Choice.{and_both}
 use Rattle.byte_order_mark.proofs.Marks.{mark_length_after}
-use Rattle.rules.specs.Script.{LIMIT, script_tokens, script_errors}
+use Rattle.rules.specs.Script.{LIMIT, accepted, script_tokens, script_errors}
 use Rattle.std.specs.Prelude.{Ok, Err}
 use Rattle.refusals.specs.declared.Refusal.{Refusal}
 use Rattle.refusals.specs.Refusals.{refusal_number, refusal_figure}
@@ -24,7 +24,7 @@ use Rattle.room.specs.Room.{most_tokens, most_texts, most_errors, roomy}
 use Rattle.room.proofs.Totals.{text_low, few_tokens, few_texts, few_errors}
 use Rattle.list_loop.specs.Run.{Ran}
 use Rattle.questions.specs.Questions.{ask_text, ask_room}
-use Rattle.questions.proofs.Questions.{yes_accepted, room_yes, yes_room}
+use Rattle.questions.proofs.Questions.{room_yes, yes_room}
 use Rattle.lexer.specs.Tokenize.{measure_answer, tokenize_answer, buffer_after, Tokenized}
 
 -- ── Measuring ──
@@ -83,11 +83,10 @@ module _ (s tokens texts errors : List ℕ) where
   tokenize_counted u r tokens' texts' errors' e k x w = tokenize_yes r tokens' texts' errors' e (rw (← k) x) w
 
 -- Buffers that hold what any text takes hold what this script takes.
-pub roomy_yes : (s : List ℕ) (n tokens texts errors : ℕ) → ask_text s ≡ got tt → n ≡ length (after_mark s) → roomy n tokens texts errors ≡ true
+pub roomy_yes : (s : List ℕ) (n tokens texts errors : ℕ) → accepted s ≡ true → n ≡ length (after_mark s) → roomy n tokens texts errors ≡ true
     → ask_room (needed s) tokens texts errors ≡ got tt
 unfolding roomy
-roomy_yes s n tokens texts errors e k h =
-    let ok = yes_accepted s e in
+roomy_yes s n tokens texts errors ok k h =
     let p = and_both (leb (most_tokens n) tokens && leb (most_texts n) texts) (leb (most_errors n) errors) h in
     let q = and_both (leb (most_tokens n) tokens) (leb (most_texts n) texts) p.0 in
     let a = rw k at (leb-true (most_tokens n) tokens q.0) in
@@ -106,5 +105,5 @@ module _ (s : List ℕ) (m : ℕ) (e : m ≡ mark_length s) where
   pub after_size : length s - m ≡ length (after_mark s)
   after_size = omega (arith, mark_length_after s)
 
-  pub after_low : ask_text s ≡ got tt → length s - m ≤ LIMIT
-  after_low y = omega (arith, after_size, text_low s (yes_accepted s y))
+  pub after_low : accepted s ≡ true → length s - m ≤ LIMIT
+  after_low ok = omega (arith, after_size, text_low s ok)

@@ -14,7 +14,7 @@ use Rattle.rules.proofs.Demand as demand
 use Rattle.std.specs.Prelude.{Result, Ok}
 use Rattle.refusals.specs.declared.Refusal.{Refusal}
 use Rattle.refusals.proofs.Answers.{same_got, same_answer, yes_then}
-use Rattle.refusals.specs.Answers.{Answer, got, refused, of_answer, ◌then◌}
+use Rattle.refusals.specs.Answers.{Answer, got, of_answer, ◌then◌}
 use Rattle.records.specs.Layout.{text_bytes, error_bytes}
 use Rattle.record_lists.specs.Lists.{tokens_from, errors_from}
 use Rattle.records.proofs.Filling.{errors_size, length_errors}

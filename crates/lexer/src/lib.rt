@@ -14,7 +14,7 @@ use room::{Used, is_roomy};
 pub fn measure(script: &[u8]) -> Result<Used, Refusal>
     ensures { of_answer result ≡ measure_answer script.now }
 {
-    ask_text(script)?;
+    let script = ask_text(script)?;
     Ok(count(script))
 }
 
@@ -27,8 +27,8 @@ pub fn tokenize(
 ) -> Result<Used, Refusal>
     ensures { Tokenized script.now tokens.old texts.old errors.old result tokens.new texts.new errors.new }
 {
-    ask_text(script)?;
-    let n = script.len() - byte_order_mark::mark_length(script);
+    let script = ask_text(script)?;
+    let n = script.bytes.len() - byte_order_mark::mark_length(script.bytes);
     if is_roomy(n, tokens.len(), texts.len(), errors.len()) {
         return Ok(run(script, tokens, texts, errors));
     }

@@ -3,8 +3,6 @@ use Rattle.std.specs.Prelude.{◌≡◌, true, List, ℕ}
 use Rattle.std.proofs.lemmas.List.Edits.{sets}
 use Rattle.rules.specs.Script.{script_tokens, script_errors}
 use Rattle.records.specs.Layout.{token_bytes, text_bytes, error_bytes}
-use Rattle.steps.specs.declared.Cursor.{Cursor}
-use Rattle.steps.specs.declared.Within.TheVariants.{Outside}
 use Rattle.room.specs.declared.Used.{Used}
 use Rattle.room.specs.Needed.{needed}
 
@@ -14,10 +12,6 @@ pub record Ran (s tokens texts errors : List ℕ) (r : Used) (tokens' texts' err
   pub tokens_written : tokens' ≡ sets tokens 0 (token_bytes (script_tokens s))
   pub texts_written : texts' ≡ sets texts 0 (text_bytes (script_tokens s))
   pub errors_written : errors' ≡ sets errors 0 (error_bytes (script_errors s))
-
--- The cursor at a place of the first line, outside of strings.
-abbrev pub begin_at : ℕ → Cursor
-begin_at place = record { at = record { offset = place; line = 1; col = 1 }; within = Outside }
 
 -- Nothing used yet, and nothing open.
 abbrev pub nothing_used : Used

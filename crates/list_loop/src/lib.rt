@@ -1,28 +1,23 @@
 // The list loop: the tokens, texts and errors of a script, one step after another.
 #![tactic(auto)]
 
-ghost use Rattle.std.specs.Prelude.{◌≡◌, true};
-ghost use Rattle.rules.specs.Script.{accepted};
+ghost use Rattle.std.specs.Prelude.{◌≡◌};
 ghost use Rattle.room.specs.Needed.{needed};
-ghost use Rattle.list_loop.specs.Run.{Ran, begin_at, nothing_used};
+ghost use Rattle.steps.specs.Step.{begin};
+ghost use Rattle.list_loop.specs.Run.{Ran, nothing_used};
 
+use questions::script::Script;
 use room::Used;
 use scanner::step;
-use spans::Position;
 use steps::{Cursor, Fill, Step, Within};
 use words::Tables;
 
-// The cursor at a place of the first line, outside of strings. A text begins at the place 0.
-fn begin(place: usize) -> Cursor
-    ensures { result ≡ begin_at place }
+// The cursor at the beginning of a text: at its first line and column, outside of strings.
+fn begin() -> Cursor
+    ensures { result ≡ begin }
 {
-    let at = Position {
-        offset: place,
-        line: 1,
-        col: 1,
-    };
     Cursor {
-        at,
+        at: bridge::at_place(0),
         within: Within::Outside,
     }
 }
@@ -41,13 +36,12 @@ fn nothing() -> Used
 }
 
 // The list loop: each token's record, text and errors, as far as the buffers hold them, and what all of them take.
-pub fn run(script: &[u8], tokens: &mut [u8], texts: &mut [u8], errors: &mut [u8]) -> Used
-    requires { accepted script.now ≡ true }
-    ensures { Ran script.now tokens.old texts.old errors.old result tokens.new texts.new errors.new }
+pub fn run(script: Script<'_>, tokens: &mut [u8], texts: &mut [u8], errors: &mut [u8]) -> Used
+    ensures { Ran script.entry.bytes.now tokens.old texts.old errors.old result tokens.new texts.new errors.new }
 {
     let tables = Tables::new();
-    let text = byte_order_mark::after_mark(script);
-    let mut c = begin(0);
+    let text = byte_order_mark::after_mark(script.bytes);
+    let mut c = begin();
     let mut u = nothing();
     loop {
         let Step::Token(t, next) = step(
@@ -78,9 +72,8 @@ pub fn run(script: &[u8], tokens: &mut [u8], texts: &mut [u8], errors: &mut [u8]
 }
 
 // What a script takes, by the list loop over no buffers.
-pub fn count(script: &[u8]) -> Used
-    requires { accepted script.now ≡ true }
-    ensures { result ≡ needed script.now }
+pub fn count(script: Script<'_>) -> Used
+    ensures { result ≡ needed script.entry.bytes.now }
 {
     let mut tokens = [0u8; 0];
     let mut texts = [0u8; 0];

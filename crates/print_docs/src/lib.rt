@@ -16,6 +16,7 @@ ghost use Rattle.text_parts.specs.Parts.{part_bytes};
 ghost use Rattle.text_parts.specs.Lines.{text_left, left_size, GoodCursor};
 ghost use Rattle.print_docs.specs.Docs.{LinePart};
 
+use characters::space;
 use text_parts::lines::Cursor;
 use text_parts::{Part, lines};
 
@@ -85,8 +86,8 @@ pub fn put_line_doc(part: &[u8], out: &mut [u8], at: usize) -> usize
     requires at_bound { at ≤ MOST / 2 }
     ensures { Put out.old out.new at (doc (encode (trim (chars_of part.now))) ++ (LF ∷ [])) result }
 {
-    let start = doc_lines::past_blanks(part, 0, false);
-    let l = doc_lines::trimmed_line(part, start, false);
+    let start = doc_lines::past_chars(part, 0, space::is_white);
+    let l = doc_lines::trimmed_line(part, start, |_| false);
     put_short(part, l.from, l.to, out, at)
 }
 

@@ -1,8 +1,7 @@
 // The print of a script: its elements one after another.
 #![tactic(auto)]
 
-ghost use Rattle.std.specs.Prelude.{◌≡◌, true, ◌≤◌};
-ghost use Rattle.rules.specs.Script.{accepted};
+ghost use Rattle.std.specs.Prelude.{◌≤◌};
 ghost use Rattle.bridge.specs.Bridge.{placed, Within};
 ghost use Rattle.output.specs.Writing.{Put, PLACES};
 ghost use Rattle.prints.specs.Writing.{due_space};
@@ -11,8 +10,9 @@ ghost use Rattle.print_loop.specs.Loops.{FRONT, Nothing, EndAt, TurnAt, WalkedAt
 
 use marks::Marks;
 use print_places::{Flawed, Written};
+use questions::script::Script;
 
-// The space that is due.
+// The space that is due: one byte or none, as the element before it says. A closure that writes it would be no plainer.
 fn put_space(due: bool, out: &mut [u8], at: usize) -> usize
     requires { at ≤ PLACES }
     ensures { Put out.old out.new at (due_space due) result }
@@ -36,6 +36,7 @@ fn end_at(text: &[u8], from: usize) -> Result<(), Flawed>
 }
 
 // The next element from a place on, behind a space if one is due, and whether a space is due behind it; none where nothing is left.
+// The element counts either way, so the flags are no Options.
 fn next(
     marks: &Marks,
     text: &[u8],
@@ -61,12 +62,11 @@ fn next(
 }
 
 // The bytes of the print of a script, as far as the buffer holds it.
-pub fn write(script: &[u8], out: &mut [u8]) -> Result<usize, Flawed>
-    requires { accepted script.now ≡ true }
-    ensures { WalkedAt script.now out.old out.new result }
+pub fn write(script: Script<'_>, out: &mut [u8]) -> Result<usize, Flawed>
+    ensures { WalkedAt script.entry.bytes.now out.old out.new result }
 {
     let marks = Marks::new();
-    let text = byte_order_mark::after_mark(script);
+    let text = byte_order_mark::after_mark(script.bytes);
     let mut from = 0;
     let mut due = false;
     let mut at = 0;

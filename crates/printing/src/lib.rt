@@ -1,8 +1,7 @@
 // The office print of a script.
 #![tactic(auto)]
 
-ghost use Rattle.std.specs.Prelude.{◌≡◌, true, ◌≤◌, length};
-ghost use Rattle.rules.specs.Script.{accepted};
+ghost use Rattle.std.specs.Prelude.{◌≤◌, length};
 ghost use Rattle.printing.specs.Passes.{WalkedFront};
 ghost use Rattle.printing.specs.Printing.{Printed};
 
@@ -10,13 +9,13 @@ use first_error::first_start;
 use print_loop::write;
 use print_places::Flawed;
 use questions::ask_text;
+use questions::script::Script;
 use refusals::Refusal;
 
 // One pass of the print, over the first n bytes of a buffer; the others keep.
-fn write_front(script: &[u8], out: &mut [u8], n: usize) -> Result<usize, Flawed>
-    requires script_value { accepted script.now ≡ true }
-    requires n_in_bounds { n ≤ length out.old }
-    ensures { WalkedFront script.now n out.old out.new result }
+fn write_front(script: Script<'_>, out: &mut [u8], n: usize) -> Result<usize, Flawed>
+    requires { n ≤ length out.old }
+    ensures { WalkedFront script.entry.bytes.now n out.old out.new result }
 {
     write(script, &mut out[..n])
 }
@@ -26,7 +25,7 @@ fn write_front(script: &[u8], out: &mut [u8], n: usize) -> Result<usize, Flawed>
 pub fn print(script: &[u8], out: &mut [u8]) -> Result<usize, Refusal>
     ensures { Printed script.now out.old result out.new }
 {
-    ask_text(script)?;
+    let script = ask_text(script)?;
     let size = out.len();
     let Ok(bytes) = write_front(script, out, 0) else {
         return Err(Refusal::Mistake(first_start(script) as u64));

@@ -4,7 +4,6 @@ use mathlib.Core.Path.{◌≡◌, refl, sym, ◌∙◌, ap}
 use mathlib.Core.Bool.{Bool, true, false, ◌&&◌, not}
 use mathlib.Core.List.{List}
 use Prim.Native.Nat.{ℕ, ◌≤◌, ◌<◌}
-use native.Mathlib.Omega.{arith}
 use borrow.Author.Tests.{leb-true, le-leb, lt-leb}
 use lib.Dec.{leb}
 use lib.ListN.{length, drop}
@@ -54,6 +53,14 @@ module _ (s : List ℕ) where
       go false x k = absurd (got_is_not_refused tt _ _ (sym k))
       go true None k = refl
       go true (Some p) k = absurd (got_is_not_refused tt _ _ (sym k))
+
+  -- So one that is short enough and has no bad sequence is.
+  pub valid_accepted : length s ≤ LIMIT → first_bad s ≡ None → accepted s ≡ true
+  valid_accepted h e = yes_accepted (sym (text_valid h e))
+
+  -- It passes, with its bytes.
+  pub valid_passes : length s ≤ LIMIT → first_bad s ≡ None → (bytes : List ℕ) → bytes ≡ s → (got tt ≡ ask_text s) × (bytes ≡ s)
+  valid_passes h e bytes k = (text_valid h e, k)
 
 -- ── Questions 3, 4 and 5 ──
 

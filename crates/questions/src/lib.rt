@@ -3,21 +3,24 @@
 
 ghost use Rattle.std.specs.Prelude.{◌≡◌};
 ghost use Rattle.refusals.specs.Answers.{of_answer};
-ghost use Rattle.questions.specs.Questions.{ask_text, ask_room};
+ghost use Rattle.questions.specs.Questions.{ask_room, Asked};
 
 use refusals::Refusal;
 use room::Used;
 use rules::LIMIT;
+use script::Script;
+
+pub mod script; // script.rt: a script that has passed questions 1 and 2
 
 // Questions 1 and 2.
-pub fn ask_text(script: &[u8]) -> Result<(), Refusal>
-    ensures { of_answer result ≡ ask_text script.now }
+pub fn ask_text(script: &[u8]) -> Result<Script<'_>, Refusal>
+    ensures { Asked script.now result }
 {
     if LIMIT < script.len() {
         return Err(Refusal::Length(script.len() as u64));
     }
     let Some(at) = utf8_check::first_bad(script) else {
-        return Ok(());
+        return Ok(Script { bytes: script });
     };
     Err(utf8_classes::bad_class(script, at))
 }

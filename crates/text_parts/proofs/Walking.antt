@@ -1,7 +1,7 @@
 -- Laws of the walk over the lines of a doc comment. Assumes nothing.
-use Rattle.std.specs.Prelude.{if◌then◌else◌}
+use Rattle.std.specs.Prelude.{Option, Some, None, is_some}
 use mathlib.Core.Path.{◌≡◌, refl, sym, ◌∙◌, ap, ap₂, subst}
-use mathlib.Core.Bool.{Bool, true, false, true≢false}
+use mathlib.Core.Bool.{Bool, true, false, false≢true}
 use mathlib.Core.List.{List, [], ◌∷◌, ◌++◌}
 use Prim.Native.Nat.{ℕ, suc, ◌+◌, ◌-◌, ◌≤◌, ◌<◌}
 use native.Mathlib.Omega.{arith}
@@ -10,7 +10,6 @@ use lib.ListN.{length, replicate, drop, length-append}
 use lib.Seq.{slice, slice_empty, length-slice}
 use Rattle.characters.specs.Choice.{◌is◌}
 use Rattle.characters.specs.Utf8.{encode_char, encode, chars_at, chars_of, bytes}
-use Rattle.characters.proofs.Choice.{if_both}
 use Rattle.characters.proofs.Widths.{encode_one}
 use Rattle.characters.proofs.Characters.{chars_start}
 use Rattle.characters.proofs.Texts.{encode_length, text_front}
@@ -19,7 +18,7 @@ use Rattle.rules.specs.Docs.{clean_line, clean_doc}
 use Rattle.rules.proofs.Sizes.{cleaner_bytes}
 use Rattle.doc_lines.specs.Lines.{LineAt}
 use Rattle.doc_lines.specs.declared.Line.{Line}
-use Rattle.docs.specs.Texts.{line_text, feeds_after, lines_text}
+use Rattle.docs.specs.Texts.{line_text, feeds_after, lines_text, lines_from}
 use Rattle.docs.proofs.Joining.{clean_lines, clean_text}
 use Rattle.docs.proofs.Cleaning.{empty_slice, feeds_one, feeds_none, feeds_more, line_bytes_lem}
 use Rattle.text_parts.specs.Lines.{line_left, lines_behind, text_left, left_size, GoodLine, GoodCursor, at_line, Passed, Begun, BehindLine, GoesOn}
@@ -42,18 +41,18 @@ module _ (s : List ℕ) (c : Cursor) where
   unfolding line_left
   line_some h = rw (ne_eqb c.from c.to (λ e. omega arith))
 
-  behind_none : c.last ≡ true → lines_behind s c ≡ []
-  unfolding lines_behind
+  behind_none : c.next ≡ None → lines_behind s c ≡ []
+  unfolding lines_behind lines_text encode
   behind_none e = rw e
 
-  behind_full : c.last ≡ false → c.from < c.to → lines_behind s c ≡ ahead s 1 c.next
+  behind_full : (n : ℕ) → c.next ≡ Some n → c.from < c.to → lines_behind s c ≡ ahead s 1 n
   unfolding lines_behind
-  behind_full e h =
-      rw e (ap (λ (k : ℕ). ahead s k c.next) (sym (feeds_one c.feeds c.from c.to (λ e. omega arith))))
+  behind_full n e h =
+      rw e (ap (λ (k : ℕ). ahead s k n) (sym (feeds_one c.feeds c.from c.to (λ e. omega arith))))
 
-  behind_empty : c.last ≡ false → c.from ≡ c.to → lines_behind s c ≡ ahead s (feeds_after c.feeds true) c.next
+  behind_empty : (n : ℕ) → c.next ≡ Some n → c.from ≡ c.to → lines_behind s c ≡ ahead s (feeds_after c.feeds true) n
   unfolding lines_behind
-  behind_empty e h = rw (e, eq-eqb c.from c.to h)
+  behind_empty n e h = rw (e, eq-eqb c.from c.to h)
 
   left_is : text_left s c ≡ line_left s c ++ lines_behind s c
   unfolding text_left
@@ -61,11 +60,11 @@ module _ (s : List ℕ) (c : Cursor) where
 
   -- Where the cursor stands at the end, nothing is left.
   pub left_over : GoodCursor s c → c.from ≡ c.to → text_left s c ≡ []
-  left_over g e = go c.last refl
+  left_over g e = go c.next refl
     where
-      go : (b : Bool) → c.last ≡ b → text_left s c ≡ []
-      go true f = left_is ∙ ap₂ (λ (a b : List ℕ). a ++ b) (line_none e) (behind_none f)
-      go false f = let h = g.full f in absurd (omega arith)
+      go : (next : Option ℕ) → c.next ≡ next → text_left s c ≡ []
+      go None f = left_is ∙ ap₂ (λ (a b : List ℕ). a ++ b) (line_none e) (behind_none f)
+      go (Some n) f = let h = g.full n f in absurd (omega arith)
 
 -- ── A line ──
 
@@ -85,11 +84,9 @@ module _ (s : List ℕ) (at : ℕ) (l : Line) (k : ℕ) (a : LineAt clean_line t
   unfolding line_text line_left
   line_text_lem = rw (empty_slice s l.from l.to a.forth a.inside)
 
-  rest_text : encode (lines_text (feeds_after k (l.from is l.to)) (if l.last then [] else clean_lines (chars_at s l.next)))
-      ≡ lines_behind s (at_line l k)
-  unfolding lines_behind lines_text encode
-  rest_text =
-      if_both (λ (x : List Text) (y : List ℕ). encode (lines_text (feeds_after k (l.from is l.to)) x) ≡ y) l.last (λ _. refl) (λ _. refl)
+  rest_text : encode (lines_text (feeds_after k (l.from is l.to)) (lines_from s l.next)) ≡ lines_behind s (at_line l k)
+  unfolding lines_behind
+  rest_text = refl
 
   at_left : text_left s (at_line l k) ≡ ahead s k at
   at_left = left_is s (at_line l k) ∙ sym (line_bytes_lem s at l a k ∙ ap₂ (λ (x y : List ℕ). x ++ y) line_text_lem rest_text)
@@ -108,28 +105,28 @@ pass_start s c g = record { good = g; same = refl; none = λ e. e; some = λ h. 
 
 module _ (s : List ℕ) (c d : Cursor) (p : Passing s c d) where
   -- One empty line more.
-  pub pass_more : d.to ≤ d.from → d.last ≡ false → (l : Line) (k : ℕ) (e : Cursor) → LineAt clean_line true s d.next l
+  pub pass_more : d.to ≤ d.from → (n : ℕ) → d.next ≡ Some n → (l : Line) (k : ℕ) (e : Cursor) → LineAt clean_line true s n l
       → k ≡ feeds_after d.feeds true → e ≡ at_line l k → Passing s c e
-  pass_more h f l k e a n q =
+  pass_more h n f l k e a v q =
       let g = p.good in
       let x : d.from ≡ d.to = omega (arith, g.forth) in
       let few : k ≤ d.feeds + 1 = feeds_most (d.feeds is 0) refl in
       subst (Passing s c) (sym q) (record {
-        good = at_good s d.next l k a (omega (arith, few, g.few, g.goes f, a.begins, a.forth));
+        good = at_good s n l k a (omega (arith, few, g.few, g.goes n f, a.begins, a.forth));
         same =
-            at_left s d.next l k a ∙ ap (λ (m : ℕ). ahead s m d.next) n ∙ sym (behind_empty s d f x)
+            at_left s n l k a ∙ ap (λ (m : ℕ). ahead s m n) v ∙ sym (behind_empty s d n f x)
             ∙ sym (left_is s d ∙ ap (λ (b : List ℕ). b ++ lines_behind s d) (line_none s d x))
             ∙ p.same;
-        none = λ z. n ∙ sym (feeds_none d.feeds 0 0 refl (p.none z));
-        some = λ z. let y = p.some z in omega (arith, n, feeds_more d.feeds 0 0 refl (λ w. omega arith));
+        none = λ z. v ∙ sym (feeds_none d.feeds 0 0 refl (p.none z));
+        some = λ z. let y = p.some z in omega (arith, v, feeds_more d.feeds 0 0 refl (λ w. omega arith));
       })
     where
       feeds_most : (b : Bool) → (d.feeds is 0) ≡ b → k ≤ d.feeds + 1
-      feeds_most true w = omega (arith, n, feeds_none d.feeds 0 0 refl (eqb-true d.feeds 0 w))
-      feeds_most false w = omega (arith, n, feeds_more d.feeds 0 0 refl (eqb-false d.feeds 0 w))
+      feeds_most true w = omega (arith, v, feeds_none d.feeds 0 0 refl (eqb-true d.feeds 0 w))
+      feeds_most false w = omega (arith, v, feeds_more d.feeds 0 0 refl (eqb-false d.feeds 0 w))
 
   -- A line that is not empty, or the last one.
-  pub pass_end : (d.last ≡ false → d.from < d.to) → Passed s c d
+  pub pass_end : ((n : ℕ) → d.next ≡ Some n → d.from < d.to) → Passed s c d
   pass_end f = record { good = record { line = p.good; full = f }; same = p.same; none = p.none; some = p.some }
 
 -- ── The beginning ──
@@ -161,7 +158,7 @@ module _ (s : List ℕ) (c : Cursor) (g : GoodCursor s c) where
   abbrev stopped : Cursor
   stopped = record c { from = c.to; feeds = 0 }
 
-  pub behind_last : c.last ≡ true → BehindLine s c stopped
+  pub behind_last : c.next ≡ None → BehindLine s c stopped
   behind_last e =
       let i = g.line in
       let good : GoodCursor s stopped
@@ -170,12 +167,12 @@ module _ (s : List ℕ) (c : Cursor) (g : GoodCursor s c) where
             record {
               forth = omega arith;
               inside = i.inside;
-              goes = λ f. absurd (true≢false (sym e ∙ f));
+              goes = λ n f. absurd (false≢true (ap is_some (sym e ∙ f)));
               within = i.within;
               few = omega arith;
               plain = rw (slice_empty c.to s) nothing_feedless;
             };
-        full = λ f. absurd (true≢false (sym e ∙ f));
+        full = λ n f. absurd (false≢true (ap is_some (sym e ∙ f)));
       } in
       record {
         good = good;
@@ -183,19 +180,19 @@ module _ (s : List ℕ) (c : Cursor) (g : GoodCursor s c) where
         waits = λ h. absurd (omega arith);
       }
 
-  pub behind_more : c.last ≡ false → (l : Line) (d r : Cursor) → LineAt clean_line true s c.next l → d ≡ at_line l 1 → Passed s d r
+  pub behind_more : (n : ℕ) → c.next ≡ Some n → (l : Line) (d r : Cursor) → LineAt clean_line true s n l → d ≡ at_line l 1 → Passed s d r
       → BehindLine s c r
-  behind_more f l d r a e p =
+  behind_more n f l d r a e p =
       record {
         good = p.good;
-        text = p.same ∙ ap (text_left s) e ∙ at_left s c.next l 1 a ∙ sym (behind_full s c f (g.full f));
+        text = p.same ∙ ap (text_left s) e ∙ at_left s n l 1 a ∙ sym (behind_full s c n f (g.full n f));
         waits = λ _. p.some (omega (arith, ap (λ (d : Cursor). d.feeds) e));
       }
 
   -- There is a place for the line feed before it.
-  pub behind_good : c.last ≡ false → (l : Line) (d : Cursor) → LineAt clean_line true s c.next l → d ≡ at_line l 1 → GoodLine s d
-  behind_good f l d a e =
-      subst (GoodLine s) (sym e) (at_good s c.next l 1 a (omega (arith, g.line.goes f, a.begins, a.forth)))
+  pub behind_good : (n : ℕ) → c.next ≡ Some n → (l : Line) (d : Cursor) → LineAt clean_line true s n l → d ≡ at_line l 1 → GoodLine s d
+  behind_good n f l d a e =
+      subst (GoodLine s) (sym e) (at_good s n l 1 a (omega (arith, g.line.goes n f, a.begins, a.forth)))
 
   -- ── The next part ──
 
@@ -219,7 +216,7 @@ module _ (s : List ℕ) (c : Cursor) (g : GoodCursor s c) where
       = left_is s c
       ∙ ap₂ (λ (x y : List ℕ). x ++ y)
       (line_some s c k ∙ ap (λ (n : ℕ). replicate n LF ++ slice c.from c.to s) m ∙ ap (λ (l : List ℕ). LF ∷ l) (sym (line_some s fewer k)))
-      (same_behind k c.last refl)
+      (same_behind k c.next refl)
       ∙ sym (ap₂ (λ (x y : List ℕ). x ++ y) (encode_one LF (omega arith)) (left_is s fewer)) in
       record {
         here = k;
@@ -244,9 +241,9 @@ module _ (s : List ℕ) (c : Cursor) (g : GoodCursor s c) where
         less = shorter (encode_char LF) fewer t (omega (arith, ap length (encode_one LF (omega arith))));
       }
     where
-      same_behind : c.from < c.to → (b : Bool) → c.last ≡ b → lines_behind s c ≡ lines_behind s fewer
-      same_behind k true e = behind_none s c e ∙ sym (behind_none s fewer e)
-      same_behind k false e = behind_full s c e k ∙ sym (behind_full s fewer e k)
+      same_behind : c.from < c.to → (next : Option ℕ) → c.next ≡ next → lines_behind s c ≡ lines_behind s fewer
+      same_behind k None e = behind_none s c e ∙ sym (behind_none s fewer e)
+      same_behind k (Some n) e = behind_full s c n e k ∙ sym (behind_full s fewer n e k)
 
   -- The line.
   pub next_line : (c.from ≡ c.to → ⊥) → c.feeds ≤ 0 → (d : Cursor) → BehindLine s c d

@@ -1,12 +1,12 @@
 -- The text of a block doc comment in parts. `s` is the part of the script between the comment's marks.
-use Rattle.std.specs.Prelude.{◌≡◌, false, List, [], ◌++◌, map, ℕ, ◌≤◌, ◌<◌, length, replicate, if◌then◌else◌, Option, Some, None}
+use Rattle.std.specs.Prelude.{◌≡◌, false, List, [], ◌++◌, ℕ, ◌≤◌, ◌<◌, length, replicate, if◌then◌else◌, Option, Some, None}
 use Rattle.std.proofs.Math.Seq.{slice}
 use Rattle.characters.specs.Choice.{◌is◌}
-use Rattle.characters.specs.Utf8.{chars_at, chars_of, encode}
+use Rattle.characters.specs.Utf8.{chars_of, encode}
 use Rattle.rules.specs.Text.{LF, one_of}
-use Rattle.rules.specs.Docs.{lines, clean_line, clean_doc}
+use Rattle.rules.specs.Docs.{clean_doc}
 use Rattle.doc_lines.specs.declared.Line.{Line}
-use Rattle.docs.specs.Texts.{feeds_after, lines_text}
+use Rattle.docs.specs.Texts.{feeds_after, lines_text, lines_from}
 use Rattle.text_parts.specs.Parts.{part_bytes, PartWithin}
 use Rattle.text_parts.specs.declared.Part.{Part}
 use Rattle.text_parts.specs.declared.Part.TheVariants as part
@@ -19,8 +19,7 @@ unfoldable pub line_left : List ℕ → Cursor → List ℕ
 line_left s c = if c.from is c.to then [] else (replicate c.feeds LF ++ slice c.from c.to s)
 
 unfoldable pub lines_behind : List ℕ → Cursor → List ℕ
-lines_behind s c =
-    if c.last then [] else encode (lines_text (feeds_after c.feeds (c.from is c.to)) (map clean_line (lines (chars_at s c.next))))
+lines_behind s c = encode (lines_text (feeds_after c.feeds (c.from is c.to)) (lines_from s c.next))
 
 -- What the cursor still gives: the rest of the comment's text.
 unfoldable pub text_left : List ℕ → Cursor → List ℕ
@@ -37,19 +36,19 @@ left_size s c = length (text_left s c)
 pub record GoodLine (s : List ℕ) (c : Cursor) : Type 0 where
   pub forth : c.from ≤ c.to
   pub inside : c.to ≤ length s
-  pub goes : c.last ≡ false → c.to < c.next
-  pub within : c.next ≤ length s
+  pub goes : (n : ℕ) → c.next ≡ Some n → c.to < n
+  pub within : (n : ℕ) → c.next ≡ Some n → n ≤ length s
   pub few : c.feeds ≤ c.to
   pub plain : one_of (slice c.from c.to s) LF ≡ false
 
 -- It stands at a line that is not empty, or at the last one.
 pub record GoodCursor (s : List ℕ) (c : Cursor) : Type 0 where
   pub line : GoodLine s c
-  pub full : c.last ≡ false → c.from < c.to
+  pub full : (n : ℕ) → c.next ≡ Some n → c.from < c.to
 
 -- The cursor at a line.
 abbrev pub at_line : Line → ℕ → Cursor
-at_line l k = record { from = l.from; to = l.to; feeds = k; next = l.next; last = l.last }
+at_line l k = record { from = l.from; to = l.to; feeds = k; next = l.next }
 
 -- If a line is left, a line feed waits before it.
 abbrev pub Waits : Cursor → Type 0

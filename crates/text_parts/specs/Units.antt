@@ -1,5 +1,5 @@
 -- The text of a string's piece in parts.
-use Rattle.std.specs.Prelude.{◌≡◌, Bool, true, false, not, List, ℕ, ◌<◌, Option, Some, None}
+use Rattle.std.specs.Prelude.{◌≡◌, true, false, not, List, ℕ, ◌<◌, Option, Some, None}
 use Rattle.characters.specs.Utf8.{chars_at, encode}
 use Rattle.spans.specs.declared.Position.{Position}
 use Rattle.rules.specs.Text.{ch, is_empty}

@@ -8,14 +8,13 @@ use characters::LINE_FEED;
 use doc_lines::Line;
 
 // Where the walk over the lines stands: a line that has still to be given, if it is not empty, behind the line feeds that wait before
-// it; the place of the line after it; and whether there is none.
+// it; and the place of the line after it, if there is one.
 #[derive(Clone, Copy)]
 pub struct Cursor {
     pub from: usize,
     pub to: usize,
     pub feeds: usize,
-    pub next: usize,
-    pub last: bool,
+    pub next: Option<usize>,
 }
 
 fn at_line(l: Line, feeds: usize) -> Cursor
@@ -26,7 +25,6 @@ fn at_line(l: Line, feeds: usize) -> Cursor
         to: l.to,
         feeds,
         next: l.next,
-        last: l.last,
     }
 }
 
@@ -40,11 +38,11 @@ fn past_empty(part: &[u8], c: Cursor) -> Cursor
         if at.from < at.to {
             return at;
         }
-        if at.last {
+        let Some(next) = at.next else {
             return at;
-        }
+        };
         let feeds = docs::feeds_after(at.feeds, true);
-        let l = doc_lines::line_at(part, at.next);
+        let l = doc_lines::line_at(part, next);
         at = at_line(l, feeds);
     }
 }
@@ -62,14 +60,14 @@ fn behind_line(part: &[u8], c: Cursor) -> Cursor
     requires { GoodCursor part.now c }
     ensures { BehindLine part.now c result }
 {
-    if c.last {
+    let Some(next) = c.next else {
         return Cursor {
             from: c.to,
             feeds: 0,
             ..c
         };
-    }
-    let l = doc_lines::line_at(part, c.next);
+    };
+    let l = doc_lines::line_at(part, next);
     past_empty(part, at_line(l, 1))
 }
 

@@ -4,8 +4,8 @@ use lib.ListN.{length}
 use Rattle.docs.proofs.Cleaning.{Cleaning}
 use Rattle.docs.proofs.clean_doc.Given as goal
 
-abbrev pub invariant-loop-l : goal.invariant-loop-l
-invariant-loop-l l = Cleaning l.part l.initial.texts l.texts l.at l.place l.feeds l.end
+abbrev pub invariant-loop-next : goal.invariant-loop-next
+invariant-loop-next l = Cleaning l.part l.initial.texts l.texts l.at l.place l.feeds l.end
 
-abbrev pub decreases-loop-l : goal.decreases-loop-l
-decreases-loop-l l = length l.part - l.place
+abbrev pub decreases-loop-next : goal.decreases-loop-next
+decreases-loop-next l = length l.part - l.place

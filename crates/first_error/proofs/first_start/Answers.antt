@@ -8,5 +8,5 @@ use Rattle.first_error.proofs.first_start.Goals as goal
 pub returns : goal.returns
 unfolding num32
 returns c =
-    first_read _ _ _ _ c.requires (search rules) refl
+    first_read _ _ _ _ c.args.script.passed (search rules) refl
     c.run.ensures.errors_written c.get32.ensures.0

@@ -7,7 +7,7 @@ use Rattle.list_loop.proofs.run.Goals as goal
 pub loop-t-init : goal.loop-t-init
 loop-t-init c =
     rw (c.nothing-u.ensures, c.begin-c.ensures)
-    (going_start _ _ _ _ _ c.after_mark-text.ensures.result_value c.requires)
+    (going_start _ _ _ _ _ c.after_mark-text.ensures.result_value c.args.script.passed)
 
 pub step-requires : goal.step-requires
 step-requires c =

@@ -4,7 +4,7 @@ use Rattle.print_loop.proofs.Walks.{walk_start, walk_front, walk_wrong, walk_mor
 use Rattle.print_loop.proofs.write.Goals as goal
 
 pub loop-w-init : goal.loop-w-init
-loop-w-init c = walk_start _ _ _ c.after_mark-text.ensures.result_value c.requires
+loop-w-init c = walk_start _ _ _ c.after_mark-text.ensures.result_value c.args.script.passed
 
 pub next-requires : goal.next-requires
 next-requires c =

@@ -5,7 +5,7 @@ use Rattle.print_loop.proofs.Walks.{Walking}
 use Rattle.print_loop.proofs.write.Given as goal
 
 abbrev pub invariant-loop-w : goal.invariant-loop-w
-invariant-loop-w l = Walking l.script l.text l.initial.out l.out l.from l.due l.at
+invariant-loop-w l = Walking l.script.bytes.now l.text l.initial.out l.out l.from l.due l.at
 
 abbrev pub decreases-loop-w : goal.decreases-loop-w
 decreases-loop-w l = length l.text - l.from

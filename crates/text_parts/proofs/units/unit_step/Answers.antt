@@ -3,7 +3,6 @@ use mathlib.Core.Path.{sym, subst}
 use Rattle.spans.specs.declared.Position.{Position}
 use Rattle.bridge.specs.Bridge.{placed, Within}
 use Rattle.string_units.specs.Units.{FoundAt}
-use Rattle.text_parts.specs.Units.{NextAt}
 use Rattle.text_parts.proofs.Strings.{none_on, unit_on}
 use Rattle.text_parts.proofs.units.unit_step.Goals as goal
 

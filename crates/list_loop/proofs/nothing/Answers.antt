@@ -1,6 +1,0 @@
--- `nothing` meets its contract. Assumes nothing.
-use mathlib.Core.Path.{refl}
-use Rattle.list_loop.proofs.nothing.Goals as goal
-
-pub returns : goal.returns
-returns c = refl
