@@ -32,13 +32,13 @@ pub fn line_doc_token(
     let from = d.from;
     let to = d.to;
     let end = docs::trim_text(&text[from..to], texts, fill.texts);
+    let behind = Fill { texts: end, ..fill };
     made::made_step(
         kinds::DOC_COMMENT,
         p,
         d.at,
         fill.texts,
-        end,
-        fill.errors,
+        behind,
         false,
     )
 }
@@ -60,13 +60,16 @@ pub fn block_doc_token(
     let from = d.from;
     let to = d.to;
     let end = docs::clean_doc(&text[from..to], texts, fill.texts);
+    let behind = Fill {
+        texts: end,
+        errors: d.errors,
+    };
     made::made_step(
         kinds::DOC_COMMENT,
         p,
         d.at,
         fill.texts,
-        end,
-        d.errors,
+        behind,
         d.ran_out,
     )
 }

@@ -1,18 +1,15 @@
 -- A kind over 125 is refused with the number 6. Assumes nothing.
 use mathlib.Core.Path.{◌≡◌}
-use mathlib.Core.Bool.{true, false}
+use mathlib.Core.Bool.{false}
 use mathlib.Core.List.{List}
-use Prim.Native.Nat.{ℕ, ◌≤◌, ◌<◌}
-use borrow.Author.Tests.{le-leb, lt-leb}
+use Prim.Native.Nat.{ℕ, ◌<◌}
+use borrow.Author.Tests.{lt-leb}
 use Rattle.refusals.specs.declared.Refusal.{Refusal}
 use Rattle.refusals.specs.declared.Refusal.TheVariants.{Kind}
 use Rattle.records.specs.Kinds.{is_kind}
 use Rattle.records.specs.Answers.{stopped}
 use Rattle.record_reading.specs.Reading.{consume_at, match_at}
 
-pub kind_low : (kind : ℕ) → kind ≤ 125 → is_kind kind ≡ true
-unfolding is_kind
-kind_low kind h = le-leb kind 125 h
 
 pub kind_high : (kind : ℕ) → 125 < kind → is_kind kind ≡ false
 unfolding is_kind

@@ -9,27 +9,23 @@ ghost use Rattle.host_answers.specs.Answers.{number_of, slots_after};
 ghost use Rattle.host_matching.specs.Matching.{consumed_values, matched_values};
 
 use host_answers::{put_answer, truth_of};
+use host_reading::span_slots;
 use records::answers::TokenRecord;
 use refusals::Refusal;
-use rules::kinds;
 
 // The slots of an answer: for consume, for match.
 pub const CONSUMED_SLOTS: usize = 12;
 
 pub const MATCHED_SLOTS: usize = 3;
 
-// The last kind of token.
-const LAST_KIND: u64 = kinds::ERROR as u64;
-
-// Question 6: the kind as a byte, where there is such a kind of token.
-fn ask_kind(kind: u64) -> Result<u8, Refusal>
-    ensures { MatchResult result (λ byte. (byte ≡ kind) × (is_kind kind ≡ true)) (λ x. (x ≡ Refusal.Kind kind) × (is_kind kind ≡ false)) }
+// The kind as a byte. Question 6 refuses what is none; of a byte the reader asks it.
+fn byte_of(kind: u64) -> Result<u8, Refusal>
+    ensures { MatchResult result (λ byte. byte ≡ kind) (λ x. (x ≡ Refusal.Kind kind) × (is_kind kind ≡ false)) }
 {
-    if kind <= LAST_KIND {
-        Ok(kind as u8)
-    } else {
-        Err(Refusal::Kind(kind))
-    }
+    let Ok(byte) = u8::try_from(kind) else {
+        return Err(Refusal::Kind(kind));
+    };
+    Ok(byte)
 }
 
 // A token's record, whether it is of the kind asked for, and the place behind it, behind the figure's slot.
@@ -37,18 +33,18 @@ fn consumed_slots(consumed: (TokenRecord, bool, usize)) -> [u64; CONSUMED_SLOTS]
     ensures { drop 1 result ≡ consumed_values consumed.2 (consumed.0, consumed.1) }
 {
     let (r, fits, at) = consumed;
-    let s = r.span;
-    let found = r.kind as u64;
+    let [start, end, start_line, start_col, end_line, end_col] = span_slots(r.span);
+    let found = u64::from(r.kind);
     [
         0,
         at as u64,
         found,
-        s.start as u64,
-        s.end as u64,
-        s.start_line as u64,
-        s.start_col as u64,
-        s.end_line as u64,
-        s.end_col as u64,
+        start,
+        end,
+        start_line,
+        start_col,
+        end_line,
+        end_col,
         r.offset as u64,
         r.length as u64,
         truth_of(fits),
@@ -59,7 +55,7 @@ fn consumed_slots(consumed: (TokenRecord, bool, usize)) -> [u64; CONSUMED_SLOTS]
 fn consumed(tokens: &[u8], place: usize, kind: u64) -> Result<(TokenRecord, bool, usize), Refusal>
     ensures { of_consumed place result ≡ consume_at tokens.now place kind }
 {
-    let byte = ask_kind(kind)?;
+    let byte = byte_of(kind)?;
     record_reading::read::consume(tokens, place, byte)
 }
 
@@ -79,11 +75,11 @@ fn matched_slots(matched: (bool, usize)) -> [u64; MATCHED_SLOTS]
     [0, at as u64, truth_of(fits)]
 }
 
-// What matching answers for a kind as wide as the host's numbers.
+// What matching answers for a kind as wide as the host's numbers: two lines as above, over another question.
 fn matched(tokens: &[u8], place: usize, kind: u64) -> Result<(bool, usize), Refusal>
     ensures { of_turn place result ≡ match_at tokens.now place kind }
 {
-    let byte = ask_kind(kind)?;
+    let byte = byte_of(kind)?;
     record_reading::read::match_kind(tokens, place, byte)
 }
 

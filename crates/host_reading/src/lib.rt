@@ -5,10 +5,11 @@ ghost use Rattle.std.specs.Prelude.{◌≡◌, drop};
 ghost use Rattle.record_reading.specs.Reading.{next_at, next_error_at};
 ghost use Rattle.record_texts.specs.Texts.{text_check_at};
 ghost use Rattle.host_answers.specs.Answers.{number_of, slots_after};
-ghost use Rattle.host_reading.specs.Records.{token_values, error_values, no_values};
+ghost use Rattle.host_reading.specs.Records.{span_values, token_values, error_values, no_values};
 
 use host_answers::put_answer;
 use records::answers::{ErrorRecord, TokenRecord};
+use spans::Span;
 
 // The slots of an answer: for a token, an error, a check.
 pub const TOKEN_SLOTS: usize = 11;
@@ -17,23 +18,38 @@ pub const ERROR_SLOTS: usize = 10;
 
 pub const CHECK_SLOTS: usize = 1;
 
-// A token's record and the place behind it, behind the figure's slot.
-fn token_slots(next: (TokenRecord, usize)) -> [u64; TOKEN_SLOTS]
-    ensures { drop 1 result ≡ token_values next.1 next.0 }
+// The six fields of a span.
+#[tactic(auto, unfolding(crate::specs::Records::span_values))]
+pub fn span_slots(s: Span) -> [u64; 6]
+    ensures { result ≡ span_values s }
 {
-    let (r, at) = next;
-    let s = r.span;
-    let kind = r.kind as u64;
     [
-        0,
-        at as u64,
-        kind,
         s.start as u64,
         s.end as u64,
         s.start_line as u64,
         s.start_col as u64,
         s.end_line as u64,
         s.end_col as u64,
+    ]
+}
+
+// A token's record and the place behind it, behind the figure's slot.
+fn token_slots(next: (TokenRecord, usize)) -> [u64; TOKEN_SLOTS]
+    ensures { drop 1 result ≡ token_values next.1 next.0 }
+{
+    let (r, at) = next;
+    let [start, end, start_line, start_col, end_line, end_col] = span_slots(r.span);
+    let kind = u64::from(r.kind);
+    [
+        0,
+        at as u64,
+        kind,
+        start,
+        end,
+        start_line,
+        start_col,
+        end_line,
+        end_col,
         r.offset as u64,
         r.length as u64,
     ]
@@ -53,20 +69,11 @@ fn error_slots(next: (ErrorRecord, usize)) -> [u64; ERROR_SLOTS]
     ensures { drop 1 result ≡ error_values next.1 next.0 }
 {
     let (r, at) = next;
-    let s = r.span;
-    let kind = r.kind as u64;
-    let code = r.code as u64;
+    let [start, end, start_line, start_col, end_line, end_col] = span_slots(r.span);
+    let kind = u64::from(r.kind.number());
+    let code = u64::from(r.kind.code().unwrap_or(0));
     [
-        0,
-        at as u64,
-        kind,
-        s.start as u64,
-        s.end as u64,
-        s.start_line as u64,
-        s.start_col as u64,
-        s.end_line as u64,
-        s.end_col as u64,
-        code,
+        0, at as u64, kind, start, end, start_line, start_col, end_line, end_col, code,
     ]
 }
 

@@ -12,12 +12,13 @@ ghost use Rattle.interpolations.specs.Interpolations.{PastAt, missing, Interpola
 
 use cursor::Cursor;
 use records::answers::TokenRecord;
-use rules::error_kinds::UNTERMINATED_INTERPOLATION;
+use records::errors::ErrorKind;
 use rules::kinds;
 use spans::Position;
 use walks::{Closing, error, walk};
 
-// A token, the next cursor, whether the text ran out in the token, and how many bytes of the two buffers are used then.
+// A token, the next cursor, whether the text ran out in the token, and how many bytes of the two buffers are used then. The token
+// counts either way, so the flag is no Option.
 #[derive(Clone, Copy)]
 pub struct Given {
     pub token: TokenRecord,
@@ -50,7 +51,7 @@ pub fn past_interpolation(text: &[u8], p: Position) -> Closing
     }
 }
 
-// Writes the brace that is missing where the text ran out.
+// Writes the brace that is missing where the text ran out: one byte or none, as the walk says. A closure would be no plainer.
 fn put_brace(found: bool, texts: &mut [u8], at: usize) -> usize
     requires { at ≤ PLACES }
     ensures { Put texts.old texts.new at (missing found) result }
@@ -83,7 +84,7 @@ pub fn interpolation(
     let found = c.found;
     let part = output::put_bytes(&text[p.offset..q.offset], texts, used_texts);
     let end = put_brace(found, texts, part);
-    let noted = error::put_unclosed(errors, used_errors, found, UNTERMINATED_INTERPOLATION, q, q);
+    let noted = error::put_unclosed(errors, used_errors, found, ErrorKind::UnterminatedInterpolation, q, q);
     let token = TokenRecord {
         kind: kinds::STRING_INTERP_START,
         span: error::between(start, q),

@@ -11,7 +11,7 @@ ghost use Rattle.string_runs.specs.Runs.{Room};
 ghost use Rattle.letters.specs.Letters.{escape_letter, LetterAt, ClosedAt, CharacterAt};
 ghost use Rattle.output.specs.Writing.{PLACES};
 
-use rules::error_kinds::UNTERMINATED_CHARACTER;
+use records::errors::ErrorKind;
 use spans::Position;
 use string_units::{BACKSLASH, LETTER_U, Made, Unit};
 use walks::error;
@@ -65,7 +65,7 @@ fn close(
     ensures { ClosedAt text.now p used_texts errors.old errors.new used_errors result }
 {
     let closed = bridge::is_at(text, p.offset, b'\'');
-    let noted = error::put_unclosed(errors, used_errors, closed, UNTERMINATED_CHARACTER, p, p);
+    let noted = error::put_unclosed(errors, used_errors, closed, ErrorKind::UnterminatedCharacter, p, p);
     if closed {
         return multiline::Made {
             at: bridge::along(p, 1),
@@ -112,7 +112,7 @@ pub fn character(
                 errors,
                 used_errors,
                 false,
-                UNTERMINATED_CHARACTER,
+                ErrorKind::UnterminatedCharacter,
                 end,
                 end,
             );

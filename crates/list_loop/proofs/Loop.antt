@@ -133,12 +133,12 @@ module _ (script s tokens₀ texts₀ errors₀ tokens texts errors : List ℕ) 
 
   module _ (t : Token) (c' : Cursor) (tokens' texts' errors' : List ℕ) (used : ℕ)
       (y : Gives s c texts u.texts errors u.errors t c' texts' errors')
-      (p : Put tokens tokens' u.tokens (token_record t.kind t.span t.offset t.length) used) where
+      (p : Put tokens tokens' u.tokens (token_record t.fields.kind t.fields.span t.fields.offset t.fields.length) used) where
     next_tokens : (rest s c).tokens ≡ y.token ∷ (rest s c').tokens
     next_tokens = ap (λ (r : Rest). r.tokens) y.same
 
     next_bytes : token_bytes_from u.texts (map as_bytes (rest s c).tokens)
-        ≡ record_of u.texts (as_bytes y.token) ++ token_bytes_from t.texts (map as_bytes (rest s c').tokens)
+        ≡ record_of u.texts (as_bytes y.token) ++ token_bytes_from t.fill.texts (map as_bytes (rest s c').tokens)
     next_bytes =
         rw (next_tokens, y.text_used) (tokens_cons u.texts (as_bytes y.token) (map as_bytes (rest s c').tokens))
 
@@ -153,24 +153,24 @@ module _ (script s tokens₀ texts₀ errors₀ tokens texts errors : List ℕ) 
     going_less = omega (arith, ap length next_tokens)
 
     pub going_turn : Going script s tokens₀ texts₀ errors₀ tokens' texts' errors' c'
-        (record { tokens = used; texts = t.texts; errors = t.errors; count = u.count + 1; closed = u.closed && not t.ran_out })
+        (record { tokens = used; texts = t.fill.texts; errors = t.fill.errors; count = u.count + 1; closed = u.closed && not t.ran_out })
     going_turn =
         record {
           ok = g.ok;
           good = y.good;
           tokens_ahead =
-              ahead_step tokens₀ tokens u.tokens _ _ (record_of u.texts (as_bytes y.token)) (token_bytes_from t.texts (map as_bytes (rest s c').tokens)) next_bytes g.tokens_ahead tokens'
+              ahead_step tokens₀ tokens u.tokens _ _ (record_of u.texts (as_bytes y.token)) (token_bytes_from t.fill.texts (map as_bytes (rest s c').tokens)) next_bytes g.tokens_ahead tokens'
               used
               (p.written ∙ ap (sets tokens u.tokens) y.entry)
               (p.place ∙ ap (λ (l : List ℕ). u.tokens + length l) y.entry);
           texts_ahead =
               ahead_step texts₀ texts u.texts _ _ (made_text (as_bytes y.token)) (text_bytes (map as_bytes (rest s c').tokens)) next_texts g.texts_ahead texts'
-              t.texts
+              t.fill.texts
               y.text_written
               y.text_used;
           errors_ahead =
               ahead_step errors₀ errors u.errors _ _ (error_bytes y.errors) (error_bytes (rest s c').errors) next_errors g.errors_ahead errors'
-              t.errors
+              t.fill.errors
               y.errors_written
               y.errors_used;
           counted = omega (arith, g.counted, ap length next_tokens);

@@ -57,12 +57,12 @@ pub fn run(script: Script<'_>, tokens: &mut [u8], texts: &mut [u8], errors: &mut
         ) else {
             break;
         };
-        let used = output::put_token(tokens, u.tokens, t.kind, t.span, t.offset, t.length);
+        let used = output::put_token(tokens, u.tokens, t.fields);
         let count = u.count + 1;
         u = Used {
             tokens: used,
-            texts: t.texts,
-            errors: t.errors,
+            texts: t.fill.texts,
+            errors: t.fill.errors,
             count: count,
             closed: u.closed & !t.ran_out,
         };

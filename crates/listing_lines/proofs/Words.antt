@@ -1,4 +1,5 @@
 -- The words of a line: spellings, code points, and the fixed lines. Assumes nothing.
+use Rattle.std.specs.Prelude.{Some, None}
 use mathlib.Core.Path.{◌≡◌, refl}
 use mathlib.Core.Bool.{Bool, true, false, ◌&&◌}
 use mathlib.Core.List.{List, [], ◌∷◌, ◌++◌, append-nil}
@@ -9,9 +10,9 @@ use lib.Dec.{leb}
 use lib.ListN.{length, get_or, take, drop, replicate}
 use lib.Seq.{take-append_seam}
 use Rattle.characters.proofs.Choice.{and_both}
-use Rattle.records.specs.Kinds.{has_code}
+use Rattle.records.specs.Errors.{kind_number, kind_code, error_of}
+use Rattle.records.proofs.ErrorLaws.{code_some, code_none}
 use Rattle.spellings.specs.Spelling.{ascii, spellings, spelling}
-use Rattle.record_lists.specs.Lists.{error_of}
 use Rattle.records.specs.declared.answers.ErrorRecord.{ErrorRecord}
 use Rattle.listing_fields.specs.Fields.{field, code_field}
 use Rattle.listing_lines.specs.Lines.{ending, head_of, error_line, closed_line}
@@ -38,15 +39,15 @@ spelling_short k = nine_at spellings spellings_nine k
 
 -- ── Errors ──
 
-pub error_with : (r : ErrorRecord) → has_code r.kind ≡ true
-    → head_of 69 r.kind r.span ++ field r.code ++ ending ≡ error_line (error_of r)
-unfolding error_line error_of code_field
-error_with r e = rw e
+pub error_with : (r : ErrorRecord) (v : ℕ) → kind_code r.kind ≡ Some v
+    → head_of 69 (kind_number r.kind) r.span ++ field v ++ ending ≡ error_line (error_of r)
+unfolding error_line code_field
+error_with r v e = rw (code_some r.kind v e).1
 
-pub error_bare : (r : ErrorRecord) → has_code r.kind ≡ false
-    → head_of 69 r.kind r.span ++ ending ≡ error_line (error_of r)
-unfolding error_line error_of code_field
-error_bare r e = rw (e, append-nil (head_of 69 r.kind r.span))
+pub error_bare : (r : ErrorRecord) → kind_code r.kind ≡ None
+    → head_of 69 (kind_number r.kind) r.span ++ ending ≡ error_line (error_of r)
+unfolding error_line code_field
+error_bare r e = rw ((code_none r.kind e).1, append-nil (head_of 69 (kind_number r.kind) r.span))
 
 -- ── The last line ──
 

@@ -2,7 +2,7 @@
 #![tactic(auto)]
 
 ghost use Rattle.output.specs.Writing.{Put};
-ghost use Rattle.record_lists.specs.Lists.{error_of};
+ghost use Rattle.records.specs.Errors.{error_of};
 ghost use Rattle.spellings.specs.Spelling.{spelling};
 ghost use Rattle.listing_fields.specs.Room.{Room};
 ghost use Rattle.listing_lines.specs.Lines.{head_of, token_line, error_line, closed_line, refused_line};
@@ -11,7 +11,6 @@ ghost use Rattle.listing_lines.specs.Words.{token};
 use listing_fields::put_field;
 use output::{put_byte, put_bytes};
 use records::answers::ErrorRecord;
-use records::kinds;
 use spans::Span;
 use spellings::spelling;
 
@@ -21,7 +20,7 @@ fn put_head(letter: u8, kind: u8, s: Span, buf: &mut [u8], at: usize) -> usize
     ensures { Put buf.old buf.new at (head_of letter kind s) result }
 {
     let p = put_byte(buf, at, letter);
-    let q = put_field(kind as u64, buf, p);
+    let q = put_field(u64::from(kind), buf, p);
     listing_fields::put_span(s, buf, q)
 }
 
@@ -48,15 +47,15 @@ pub fn put_error(r: ErrorRecord, buf: &mut [u8], at: usize) -> usize
     requires { Room at (error_line (error_of r)) }
     ensures { Put buf.old buf.new at (error_line (error_of r)) result }
 {
-    let p = put_head(b'E', r.kind, r.span, buf, at);
-    if kinds::has_code(r.kind) {
-        let q = put_field(r.code as u64, buf, p);
-        return put_byte(buf, q, b'\n');
-    }
-    put_byte(buf, p, b'\n')
+    let p = put_head(b'E', r.kind.number(), r.span, buf, at);
+    let Some(code) = r.kind.code() else {
+        return put_byte(buf, p, b'\n');
+    };
+    let q = put_field(u64::from(code), buf, p);
+    put_byte(buf, q, b'\n')
 }
 
-// `closed` or `open`.
+// `closed` or `open`: the flag is the answer that the line tells.
 pub fn put_closed(closed: bool, buf: &mut [u8], at: usize) -> usize
     requires { Room at (closed_line closed) }
     ensures { Put buf.old buf.new at (closed_line closed) result }

@@ -10,12 +10,13 @@ ghost use Rattle.walks.specs.Openings.{opens_doc};
 ghost use Rattle.multiline.specs.Tokens.{dollar_brace, slashes, begins_nothing, RawAt, BracesAt, DocLineAt, DocBlockAt, UnexpectedAt};
 ghost use Rattle.output.specs.Writing.{PLACES};
 
-use rules::error_kinds;
+use records::answers::ErrorRecord;
+use records::errors::ErrorKind;
 use spans::Position;
 use walks::{error, walk};
 
 // A token whose text was written: the position behind it, the places after its text and its errors, and whether the text ran out
-// in it.
+// in it. The token counts either way, so that flag is no Option, here and below.
 #[derive(Clone, Copy)]
 pub struct Made {
     pub at: Position,
@@ -86,7 +87,7 @@ pub fn raw(
         errors,
         used_errors,
         closed,
-        error_kinds::UNTERMINATED_RAW_STRING,
+        ErrorKind::UnterminatedRawString,
         p,
         at,
     );
@@ -148,7 +149,7 @@ pub fn doc_block(text: &[u8], p: Position, errors: &mut [u8], used: usize) -> Do
         errors,
         used,
         closed,
-        error_kinds::UNTERMINATED_DOC_COMMENT,
+        ErrorKind::UnterminatedDocComment,
         p,
         at,
     );
@@ -175,6 +176,7 @@ pub fn unexpected(text: &[u8], p: Position, errors: &mut [u8], used: usize) -> R
         };
     };
     let span = error::between(p, q);
-    let end = output::put_error(errors, used, error_kinds::UNEXPECTED_CHARACTER, span, c);
+    let kind = ErrorKind::UnexpectedCharacter(c);
+    let end = output::put_error(errors, used, ErrorRecord { kind, span });
     Recorded { at: q, errors: end }
 }

@@ -5,11 +5,13 @@ ghost use Rattle.std.specs.Prelude.{◌≡◌, [], ◌∷◌, ◌≤◌, ◌<◌
 ghost use Rattle.std.specs.Char.{digit_char};
 ghost use Rattle.std.proofs.Math.Seq.{slice};
 ghost use Rattle.characters.specs.Utf8.{encode_char};
-ghost use Rattle.records.specs.Records.{token_record, error_record};
+ghost use Rattle.records.specs.Records.{token_record};
+ghost use Rattle.records.specs.Errors.{error_of};
+ghost use Rattle.records.specs.Layout.{error_record_of};
 ghost use Rattle.output.specs.Writing.{Put, PLACES, HEX};
 
+use records::answers::{ErrorRecord, TokenRecord};
 use records::{fields, kinds};
-use spans::Span;
 
 // The first number that is no decimal digit.
 const TEN: u8 = 10;
@@ -50,7 +52,8 @@ pub fn hex_digit(d: u8) -> u8
     if d < TEN { b'0' + d } else { b'a' + (d - TEN) }
 }
 
-// A character as UTF-8.
+// A character as UTF-8. This and the two below have one shape: a trait of what is written, with its bytes and three impls, would be longer
+// than the three bodies.
 pub fn put_char(c: u32, buf: &mut [u8], at: usize) -> usize
     requires c_bound { c ≤ 0x10FFFF }
     requires at_bound { at ≤ PLACES }
@@ -69,42 +72,35 @@ pub fn put_char(c: u32, buf: &mut [u8], at: usize) -> usize
 }
 
 // A token's record.
-pub fn put_token(
-    buf: &mut [u8],
-    at: usize,
-    kind: u8,
-    span: Span,
-    offset: usize,
-    len: usize,
-) -> usize
+pub fn put_token(buf: &mut [u8], at: usize, r: TokenRecord) -> usize
     requires { at ≤ PLACES }
-    ensures { Put buf.old buf.new at (token_record kind span offset len) result }
+    ensures { Put buf.old buf.new at (token_record r.kind r.span r.offset r.length) result }
 {
-    let n = kinds::record_length(kind);
+    let n = kinds::record_length(r.kind);
     if at + n <= buf.len() {
-        return record_writing::put_token(buf, at, kind, span, offset, len);
+        return record_writing::put_token(buf, at, r);
     }
     if buf.len() <= at {
         return at + n;
     }
     let mut bytes = [0u8; fields::WITH_TEXT];
-    record_writing::put_token(&mut bytes, 0, kind, span, offset, len);
+    record_writing::put_token(&mut bytes, 0, r);
     put_bytes(&bytes[..n], buf, at)
 }
 
 // An error's record.
-pub fn put_error(buf: &mut [u8], at: usize, kind: u8, span: Span, code: u32) -> usize
+pub fn put_error(buf: &mut [u8], at: usize, e: ErrorRecord) -> usize
     requires { at ≤ PLACES }
-    ensures { Put buf.old buf.new at (error_record kind span code) result }
+    ensures { Put buf.old buf.new at (error_record_of (error_of e)) result }
 {
-    let n = kinds::error_length(kind);
+    let n = kinds::error_length(e.kind.number());
     if at + n <= buf.len() {
-        return record_writing::put_error(buf, at, kind, span, code);
+        return record_writing::put_error(buf, at, e);
     }
     if buf.len() <= at {
         return at + n;
     }
     let mut bytes = [0u8; fields::WITH_CODE];
-    record_writing::put_error(&mut bytes, 0, kind, span, code);
+    record_writing::put_error(&mut bytes, 0, e);
     put_bytes(&bytes[..n], buf, at)
 }

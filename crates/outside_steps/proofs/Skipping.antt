@@ -17,10 +17,10 @@ use Rattle.steps.proofs.Giving.{end_gives, before_gives, before_given}
 module _ (s : List ℕ) (p : Position) (texts : List ℕ) (ut : ℕ) (errors errors' : List ℕ) (ue : ℕ) (r : Skipped) (k : SkippedAt s p errors errors' ue r) where
   -- The text ran out in a comment.
   pub skipped_end : r.ran_out ≡ true
-      → GivesOf (rest_outside s p) s texts ut errors ue (end_token r.at ut r.errors true) (record { at = r.at; within = Ended }) texts errors'
+      → GivesOf (rest_outside s p) s texts ut errors ue (end_token r.at (record { texts = ut; errors = r.errors }) true) (record { at = r.at; within = Ended }) texts errors'
   skipped_end e =
       before_gives s (cur.Outside p) (chars_at s p.offset) (cur.Outside r.at) (chars_at s r.at.offset) k.recorded r.ran_out texts ut errors errors' ue r.errors
-      (end_token r.at ut r.errors false) (end_token r.at ut r.errors true) (record { at = r.at; within = Ended }) texts errors' k.yields k.written
+      (end_token r.at (record { texts = ut; errors = r.errors }) false) (end_token r.at (record { texts = ut; errors = r.errors }) true) (record { at = r.at; within = Ended }) texts errors' k.yields k.written
       (end_gives s r.at texts ut errors' r.errors k.within (k.all e)) (rw e)
 
   -- A step behind it.

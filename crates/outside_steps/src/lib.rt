@@ -58,19 +58,12 @@ pub fn outside_step(
 {
     let k = skipping::skip(text, p, errors, fill.errors);
     let at = k.at;
-    let used = k.errors;
+    let behind = Fill {
+        texts: fill.texts,
+        errors: k.errors,
+    };
     if k.ran_out {
-        return made::end_step(at, fill.texts, used, true);
+        return made::end_step(at, behind, true);
     }
-    scan_at(
-        tables,
-        text,
-        at,
-        texts,
-        errors,
-        Fill {
-            texts: fill.texts,
-            errors: used,
-        },
-    )
+    scan_at(tables, text, at, texts, errors, behind)
 }

@@ -34,6 +34,7 @@ pub fn put_raw(text: &[u8], from: usize, out: &mut [u8], at: usize) -> Result<Wr
     let mut texts = [0u8; 0];
     let mut errors = [0u8; 0];
     let m = multiline::raw(text, bridge::at_place(from), &mut texts, 0, &mut errors, 0);
+    // The place behind the errors, past 0 where one was recorded, whatever its kind: a flag beside it would say the same again.
     if 0 < m.errors {
         return Err(Flawed);
     }
@@ -73,6 +74,7 @@ pub fn put_character(text: &[u8], from: usize, out: &mut [u8], at: usize) -> Res
     let mut made = [0u8; CHARACTER_BYTES];
     let mut errors = [0u8; 0];
     let l = letters::character(text, bridge::at_place(from), &mut made, 0, &mut errors, 0);
+    // The place behind the errors, as for a raw string.
     if 0 < l.errors {
         return Err(Flawed);
     }
@@ -125,6 +127,7 @@ pub fn put_block_doc(text: &[u8], from: usize, out: &mut [u8], at: usize) -> Res
 {
     let mut errors = [0u8; 0];
     let d = multiline::doc_block(text, bridge::at_place(from), &mut errors, 0);
+    // The place behind the errors, as for a raw string.
     if 0 < d.errors {
         return Err(Flawed);
     }

@@ -22,6 +22,7 @@ use Rattle.records.specs.Layout.{made_text, text_bytes, text_offset, record_of, 
 use Rattle.record_lists.specs.Lists.{word_of, token_turn, tokens_from, error_of, error_turn, errors_from, IsPart, TokenFits, Ended, ErrorFits}
 use Rattle.records.specs.declared.answers.TokenRecord.{TokenRecord}
 use Rattle.records.specs.declared.answers.ErrorRecord.{ErrorRecord}
+use Rattle.records.proofs.ErrorLaws.{of_number, of_code, of_none}
 use Rattle.records.proofs.Sets.{sets_front}
 use Rattle.records.proofs.Bytes.{length_token, length_error}
 use Rattle.record_reading.proofs.Places.{error_past}
@@ -210,12 +211,18 @@ tokens_back script ts after more n f e small h =
 -- ── Errors ──
 
 error_by : (e : TokenizeError) (rest : List ℕ) (b : Bool) → has_code e.kind ≡ b → ErrorFits e → error_of (error_at (error_record_of e ++ rest) 0) ≡ e
-unfolding error_record_of error_of code_of
+unfolding error_record_of code_of
 error_by e rest true t f =
     let c = f.code t in
     let q = front.error_code e.kind e.span (code_of e.char) rest t f.span (rw c.1 c.2) in
-    rw (q, t, c.1)
-error_by e rest false t f = rw (front.error_bare e.kind e.span (code_of e.char) rest t f.span, t, f.bare t)
+    rw (q, of_number e.kind (code_of e.char) f.low f.high, of_code e.kind (code_of e.char) t, c.1)
+error_by e rest false t f =
+    rw (
+      front.error_bare e.kind e.span (code_of e.char) rest t f.span,
+      of_number e.kind 0 f.low f.high,
+      of_none e.kind 0 f.low f.high t,
+      f.bare t,
+    )
 
 -- No turn more gives nothing more.
 nothing_more : (s : List ℕ) (at n : ℕ) → errors_from (0 + n) s at ≡ errors_from n s (at + length (error_bytes []))

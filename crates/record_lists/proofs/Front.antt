@@ -12,6 +12,8 @@ use Rattle.characters.specs.Choice.{within}
 use Rattle.spans.specs.declared.Span.{Span}
 use Rattle.records.specs.Kinds.{is_kind, has_text, record_length, is_error_kind, has_code, error_length}
 use Rattle.records.specs.Records.{le32, pair_bytes, span_bytes, head_bytes, token_record, error_record}
+use Rattle.records.specs.Errors.{kind_of}
+use Rattle.records.proofs.ErrorLaws.{of_bare}
 use Rattle.record_reading.specs.Reading.{num32, span_at, kind_at, is_whole, record_at, is_whole_error, error_at}
 use Rattle.rules.specs.Bounds.{Small, SpanFits}
 use Rattle.records.proofs.Bytes.{length_token, length_error}
@@ -109,12 +111,13 @@ module _ (k : ℕ) (sp : Span) (v : ℕ) (rest : List ℕ) where
       let l : 0 + error_length k ≤ length (error_record k sp v ++ rest) = omega (arith, length-append (error_record k sp v) rest, length_error k sp v) in
       rw (error_kind, le-leb 1 k a, le-leb k 10 h, le-leb _ _ l)
 
-  pub error_code : has_code k ≡ true → SpanFits sp → Small v → error_at (error_record k sp v ++ rest) 0 ≡ record { kind = k; span = sp; code = v }
+  pub error_code : has_code k ≡ true → SpanFits sp → Small v → error_at (error_record k sp v ++ rest) 0 ≡ record { kind = kind_of k v; span = sp }
   unfolding error_at
   error_code t f a =
       let p : num32 (error_record k sp v ++ rest) 25 ≡ v = rw (code_split t) (first_front k sp rest v a) in
-      rw (error_kind, t, error_span f, p)
+      rw (error_kind, error_span f, p)
 
-  pub error_bare : has_code k ≡ false → SpanFits sp → error_at (error_record k sp v ++ rest) 0 ≡ record { kind = k; span = sp; code = 0 }
+  pub error_bare : has_code k ≡ false → SpanFits sp → error_at (error_record k sp v ++ rest) 0 ≡ record { kind = kind_of k 0; span = sp }
   unfolding error_at
-  error_bare t f = rw (error_kind, t, error_span f)
+  error_bare t f =
+      rw (error_kind, error_span f, of_bare k (num32 (error_record k sp v ++ rest) 25) 0 t)

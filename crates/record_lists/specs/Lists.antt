@@ -8,6 +8,7 @@ use Rattle.rules.specs.Tables.{EOF, Error, UnexpectedCharacter, UnterminatedDocC
 use Rattle.rules.specs.Bounds.{Small, SpanFits}
 use Rattle.records.specs.Kinds.{has_text, is_made, has_code}
 use Rattle.spellings.specs.Spelling.{spelling}
+pub use Rattle.records.specs.Errors.{error_of}
 use Rattle.refusals.specs.Answers.{Answer, got, refused}
 use Rattle.record_reading.specs.Reading.{next_at, next_error_at}
 use Rattle.record_texts.specs.Texts.{text_check_at, text_at}
@@ -33,9 +34,6 @@ unfoldable pub tokens_from : ℕ → List ℕ → List ℕ → List ℕ → ℕ 
 tokens_from zero script texts s at = []
 tokens_from (suc turns) script texts s at =
     token_turn (tokens_from turns script texts s) (text_at script texts s at) (text_check_at script texts s at) (next_at s at).answer (next_at s at).place
-
-unfoldable pub error_of : ErrorRecord → TokenizeError
-error_of r = record { kind = r.kind; span = r.span; char = if has_code r.kind then some r.code else none }
 
 unfoldable pub error_turn : (ℕ → List TokenizeError) → Answer ErrorRecord → ℕ → List TokenizeError
 error_turn rest (got r) place = error_of r ∷ rest place

@@ -11,8 +11,11 @@ use native.Mathlib.Omega.{arith}
 use Rattle.characters.specs.Choice.{within}
 use Rattle.spans.specs.declared.Span.{Span}
 use Rattle.records.specs.Kinds.{is_kind, has_text, record_length, is_error_kind, has_code, error_length}
+use Rattle.records.specs.declared.errors.ErrorKind.{ErrorKind}
+use Rattle.records.specs.Errors.{kind_of}
+use Rattle.records.proofs.ErrorLaws.{of_bare}
 use Rattle.record_reading.specs.Reading.{num32, span_at, kind_at, is_whole, record_at, is_whole_error, error_at, after_at}
-use Rattle.records.proofs.KindLaws.{length_text, length_code}
+use Rattle.records.proofs.KindLaws.{length_text, length_code, record_least, error_least}
 
 -- ── Tests ──
 
@@ -29,22 +32,6 @@ leb_by a b c d false true p q f g = let h = g (leb-true c d q) in let n = leb-fa
 -- Two tests that say the same.
 pub leb_same : (a b c d : ℕ) → (a ≤ b → c ≤ d) → (c ≤ d → a ≤ b) → leb a b ≡ leb c d
 leb_same a b c d f g = leb_by a b c d (leb a b) (leb c d) refl refl f g
-
-least_by : (t : Bool) → 25 ≤ (if t then 33 else 25)
-least_by true = omega arith
-least_by false = omega arith
-
-pub record_least : (k : ℕ) → 25 ≤ record_length k
-unfolding record_length
-record_least k = least_by (has_text k)
-
-least_error_by : (t : Bool) → 25 ≤ (if t then 29 else 25)
-least_error_by true = omega arith
-least_error_by false = omega arith
-
-pub error_least : (k : ℕ) → 25 ≤ error_length k
-unfolding error_length
-error_least k = least_error_by (has_code k)
 
 and_none : (b : Bool) → (b && false) ≡ false
 and_none true = refl
@@ -110,21 +97,20 @@ module _ (s : List ℕ) (at : ℕ) where
   unfolding is_whole_error
   error_past h = rw (past (error_length (kind_at s at)) at (length s) (error_least (kind_at s at)) h) (and_none (is_error_kind (kind_at s at)))
 
-  pub error_low : kind_at s at < 1 → is_whole_error s at ≡ false
-  unfolding is_whole_error is_error_kind within
-  error_low h = rw (lt-leb 1 (kind_at s at) h)
+  pub error_unknown : is_error_kind (kind_at s at) ≡ false → is_whole_error s at ≡ false
+  unfolding is_whole_error
+  error_unknown h = rw h
 
-  pub error_high : 1 ≤ kind_at s at → 10 < kind_at s at → is_whole_error s at ≡ false
-  unfolding is_whole_error is_error_kind within
-  error_high a h = rw (le-leb 1 (kind_at s at) a, lt-leb (kind_at s at) 10 h)
-
-  pub error_known : (n : ℕ) → at < length s → 1 ≤ kind_at s at → kind_at s at ≤ 10 → n ≡ error_length (kind_at s at)
+  pub error_known : (n : ℕ) → at < length s → is_error_kind (kind_at s at) ≡ true → n ≡ error_length (kind_at s at)
       → leb n (length s - at) ≡ is_whole_error s at
-  unfolding is_whole_error is_error_kind within
-  error_known n h a k e =
+  unfolding is_whole_error
+  error_known n h k e =
       let m : ℕ = error_length (kind_at s at) in
-      rw (le-leb 1 (kind_at s at) a, le-leb (kind_at s at) 10 k, e)
-      (leb_same m (length s - at) (at + m) (length s) (λ a. omega arith) (λ a. omega arith))
+      rw (k, e) (leb_same m (length s - at) (at + m) (length s) (λ a. omega arith) (λ a. omega arith))
+
+  pub error_kind_is : is_whole_error s at ≡ true → is_error_kind (kind_at s at) ≡ true
+  unfolding is_whole_error
+  error_kind_is e = (and_split (is_error_kind (kind_at s at)) _ e).0
 
   pub error_room : is_whole_error s at ≡ true → at + error_length (kind_at s at) ≤ length s
   unfolding is_whole_error
@@ -136,12 +122,12 @@ module _ (s : List ℕ) (at : ℕ) where
   pub error_tail : is_whole_error s at ≡ true → has_code (kind_at s at) ≡ true → at + 29 ≤ length s
   error_tail e t = omega (arith, error_room e, length_code (kind_at s at) t)
 
-  pub error_code_at : (sp : Span) (v : ℕ) → has_code (kind_at s at) ≡ true → sp ≡ span_at s (at + 1) → v ≡ num32 s (at + 25)
-      → record { kind = kind_at s at; span = sp; code = v } ≡ error_at s at
+  pub error_code_at : (sp : Span) (v : ℕ) (k : ErrorKind) → sp ≡ span_at s (at + 1) → v ≡ num32 s (at + 25) → k ≡ kind_of (kind_at s at) v
+      → record { kind = k; span = sp } ≡ error_at s at
   unfolding error_at
-  error_code_at sp v t p q = rw (t, p, q)
+  error_code_at sp v k p q r = rw (r, p, q)
 
-  pub error_bare_at : (sp : Span) → has_code (kind_at s at) ≡ false → sp ≡ span_at s (at + 1)
-      → record { kind = kind_at s at; span = sp; code = 0 } ≡ error_at s at
+  pub error_bare_at : (sp : Span) (k : ErrorKind) → has_code (kind_at s at) ≡ false → sp ≡ span_at s (at + 1) → k ≡ kind_of (kind_at s at) 0
+      → record { kind = k; span = sp } ≡ error_at s at
   unfolding error_at
-  error_bare_at sp t p = rw (t, p)
+  error_bare_at sp k t p r = rw (r, p, of_bare (kind_at s at) 0 (num32 s (at + 25)) t)

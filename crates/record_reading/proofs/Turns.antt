@@ -83,10 +83,10 @@ module _ (s : List ℕ) (at : ℕ) where
   match_stop k x h e = rw (h, e.1, e.0)
 
   -- ── the next over errors ──
-  pub error_got : (r : ErrorRecord) (n : ℕ) → is_whole_error s at ≡ true → r ≡ error_at s at → n ≡ error_length r.kind
+  pub error_got : (r : ErrorRecord) (n : ℕ) → is_whole_error s at ≡ true → r ≡ error_at s at → n ≡ error_length (kind_at s at)
       → record { answer = got r; place = at + n } ≡ next_error_at s at
-  unfolding next_error_at error_at
-  error_got r n w a b = rw (w, b, a)
+  unfolding next_error_at
+  error_got r n w a b = rw (w, a, b)
 
   pub error_stop : is_whole_error s at ≡ false → stopped at (Place at) ≡ next_error_at s at
   unfolding next_error_at

@@ -5,10 +5,11 @@ use Rattle.characters.specs.Choice.{◌is◌}
 use Rattle.spans.specs.declared.Span.{Span}
 use Rattle.rules.specs.Tables.{EOF}
 use Rattle.records.specs.Fields.{END, START_LINE, START_COL, END_LINE, END_COL, TEXT_OFFSET, TEXT_LENGTH, CODE_POINT}
-use Rattle.records.specs.Kinds.{is_kind, has_text, record_length, is_error_kind, has_code, error_length}
+use Rattle.records.specs.Kinds.{is_kind, has_text, record_length, is_error_kind, error_length}
 use Rattle.refusals.specs.Refusals.{RefusedKind, RefusedPlace}
 use Rattle.refusals.specs.Answers.{got, refused}
 use Rattle.records.specs.Answers.{Turn}
+use Rattle.records.specs.Errors.{kind_of}
 use Rattle.records.specs.declared.answers.TokenRecord.{TokenRecord}
 use Rattle.records.specs.declared.answers.ErrorRecord.{ErrorRecord}
 
@@ -52,9 +53,8 @@ is_whole_error s at = is_error_kind (kind_at s at) && leb (at + error_length (ki
 unfoldable pub error_at : List ℕ → ℕ → ErrorRecord
 error_at s at =
     record {
-      kind = kind_at s at;
+      kind = kind_of (kind_at s at) (num32 s (at + CODE_POINT));
       span = span_at s (at + 1);
-      code = if has_code (kind_at s at) then num32 s (at + CODE_POINT) else 0;
     }
 
 -- ── The reader ──

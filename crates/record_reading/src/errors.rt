@@ -5,11 +5,12 @@ ghost use Rattle.record_reading.specs.Reading.{is_whole_error, error_at, next_er
 
 use super::read::{get_span, get32};
 use records::answers::ErrorRecord;
+use records::errors::ErrorKind;
 use records::{fields, kinds};
 use refusals::Refusal;
-use rules::error_kinds;
 
-// Whether a whole error record of a known kind starts at a place.
+// Whether a whole error record of a known kind starts at a place: `is_whole` with the other kinds. A function of both would take the kinds'
+// two functions as closures, and be no shorter.
 pub fn is_whole_error(s: &[u8], at: usize) -> bool
     ensures { result ≡ is_whole_error s.now at }
 {
@@ -17,10 +18,7 @@ pub fn is_whole_error(s: &[u8], at: usize) -> bool
         return false;
     }
     let kind = s[at];
-    if kind < error_kinds::UNEXPECTED_CHARACTER {
-        return false;
-    }
-    if error_kinds::UNTERMINATED_DOC_COMMENT < kind {
+    if !kinds::is_error_kind(kind) {
         return false;
     }
     kinds::error_length(kind) <= s.len() - at
@@ -31,17 +29,15 @@ pub fn error_at(s: &[u8], at: usize) -> ErrorRecord
     requires { is_whole_error s.now at ≡ true }
     ensures { result ≡ error_at s.now at }
 {
-    let kind = s[at];
+    let number = s[at];
     let span = get_span(s, at + 1);
-    if kinds::has_code(kind) {
+    if kinds::has_code(number) {
         let code = get32(s, at + fields::CODE_POINT) as u32;
-        return ErrorRecord { kind, span, code };
+        let kind = ErrorKind::of(number, code);
+        return ErrorRecord { kind, span };
     }
-    ErrorRecord {
-        kind,
-        span,
-        code: 0,
-    }
+    let kind = ErrorKind::of(number, 0);
+    ErrorRecord { kind, span }
 }
 
 // The error record at a place and the place where a reader then stands, or the refusal 7. There is no EOF among them.
@@ -51,7 +47,6 @@ pub fn next_error(s: &[u8], at: usize) -> Result<(ErrorRecord, usize), Refusal>
     if !is_whole_error(s, at) {
         return Err(Refusal::Place(at as u64));
     }
-    let e = error_at(s, at);
-    let place = at + kinds::error_length(e.kind);
-    Ok((e, place))
+    let place = at + kinds::error_length(s[at]);
+    Ok((error_at(s, at), place))
 }

@@ -1,6 +1,7 @@
 -- Laws of kinds. Assumes nothing.
+use Rattle.std.specs.Prelude.{if◌then◌else◌}
 use mathlib.Core.Path.{◌≡◌, refl}
-use mathlib.Core.Bool.{true, false}
+use mathlib.Core.Bool.{Bool, true, false}
 use mathlib.Core.Logic.{◌⊎◌, inl, inr, ⊎_elim}
 use Prim.Native.Nat.{ℕ, ◌≤◌, ◌<◌}
 use borrow.Author.Tests.{le-leb, lt-leb, ne_eqb}
@@ -65,6 +66,22 @@ length_code k e = simp e
 pub length_bare : (k : ℕ) → has_code k ≡ false → error_length k ≡ 25
 unfolding error_length
 length_bare k e = simp e
+
+least_by : (t : Bool) → 25 ≤ (if t then 33 else 25)
+least_by true = omega arith
+least_by false = omega arith
+
+pub record_least : (k : ℕ) → 25 ≤ record_length k
+unfolding record_length
+record_least k = least_by (has_text k)
+
+least_error_by : (t : Bool) → 25 ≤ (if t then 29 else 25)
+least_error_by true = omega arith
+least_error_by false = omega arith
+
+pub error_least : (k : ℕ) → 25 ≤ error_length k
+unfolding error_length
+error_least k = least_error_by (has_code k)
 
 -- ── The kinds whose text is made, and those whose text is not ──
 

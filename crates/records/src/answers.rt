@@ -1,7 +1,9 @@
 // What is read of a record.
+use super::errors::ErrorKind;
 use spans::Span;
 
-// A token's record. The text's offset and length are 0 where the kind carries none.
+// A token's record. The text's offset and length are 0 where the kind carries none: an Option would say again what the kind fixes, and cost
+// a test for each token.
 #[derive(Clone, Copy)]
 pub struct TokenRecord {
     pub kind: u8,
@@ -10,10 +12,9 @@ pub struct TokenRecord {
     pub length: usize,
 }
 
-// An error's record. The code point is 0 where the kind carries none.
+// An error's record.
 #[derive(Clone, Copy)]
 pub struct ErrorRecord {
-    pub kind: u8,
+    pub kind: ErrorKind,
     pub span: Span,
-    pub code: u32,
 }

@@ -1,9 +1,15 @@
 // The kinds of records, and the length that each fixes.
 ghost use Rattle.std.specs.Prelude.{◌≡◌};
-ghost use Rattle.records.specs.Kinds.{is_kind, has_text, is_made, record_length, has_code, error_length};
+ghost use Rattle.records.specs.Kinds.{is_kind, has_text, is_made, record_length, is_error_kind, has_code, error_length};
 
 use super::fields;
-use rules::error_kinds;
+
+// The numbers of the first and the last kind of error, and of the other one that carries a code point.
+const UNEXPECTED_CHARACTER: u8 = 1;
+
+const BAD_ESCAPE: u8 = 7;
+
+const UNTERMINATED_DOC_COMMENT: u8 = 10;
 
 // Whether there is such a kind of token.
 pub fn is_kind(kind: u8) -> bool
@@ -48,14 +54,21 @@ pub fn record_length(kind: u8) -> usize
     }
 }
 
+// Whether there is a kind of error of this number.
+pub fn is_error_kind(kind: u8) -> bool
+    ensures { result ≡ is_error_kind kind }
+{
+    (UNEXPECTED_CHARACTER..=UNTERMINATED_DOC_COMMENT).contains(&kind)
+}
+
 // Whether an error's record of this kind carries a code point.
 pub fn has_code(kind: u8) -> bool
     ensures { result ≡ has_code kind }
 {
-    kind == error_kinds::UNEXPECTED_CHARACTER || kind == error_kinds::BAD_ESCAPE
+    kind == UNEXPECTED_CHARACTER || kind == BAD_ESCAPE
 }
 
-// The bytes of an error's record.
+// The bytes of an error's record. Tokens and errors have kinds of their own, so that one function would take the test as a closure.
 pub fn error_length(kind: u8) -> usize
     ensures { result ≡ error_length kind }
 {

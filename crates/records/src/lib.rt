@@ -3,5 +3,6 @@
 #![tactic(auto)]
 
 pub mod answers; // answers.rt: what is read
+pub mod errors; // errors.rt: the kinds of errors
 pub mod fields; // fields.rt: where the fields of a record lie
 pub mod kinds; // kinds.rt: what a kind fixes

@@ -7,7 +7,8 @@ ghost use Rattle.room.specs.Room.{roomy};
 
 use records::fields::{LONGEST_ERROR, LONGEST_TOKEN};
 
-// The bytes used in each buffer, the number of tokens, and whether nothing is open at the end.
+// The bytes used in each buffer, the number of tokens, and whether nothing is open at the end. The numbers count either way, so the
+// flag is no Option.
 #[derive(Clone, Copy)]
 pub struct Used {
     pub tokens: usize,

@@ -3,7 +3,6 @@
 #![tactic(auto)]
 
 pub mod kinds; // kinds.rt: the kinds of tokens
-pub mod error_kinds; // error_kinds.rt: the kinds of errors
 
 // The bytes that a script may have at most, its mark counted.
 pub const LIMIT: usize = 1048576;

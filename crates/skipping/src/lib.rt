@@ -12,14 +12,15 @@ ghost use Rattle.skipping.specs.Skips.{SomeWhite, WhiteAt, CommentAt, SkippedAt}
 ghost use Rattle.output.specs.Writing.{PLACES};
 
 use characters::{LINE_FEED, space, utf8};
-use rules::error_kinds;
+use records::errors::ErrorKind;
 use spans::Position;
 use walks::{Closing, ahead, error, walk};
 
 // The column behind a line feed that is skipped, as in the Rust (lexer.rs, lines 350 to 355).
 const SKIPPED_LINE_COLUMN: usize = 2;
 
-// The position behind what was skipped, the place after its errors, and whether the text ran out in it.
+// The position behind what was skipped, the place after its errors, and whether the text ran out in it. The position counts either
+// way, so the flag is no Option.
 #[derive(Clone, Copy)]
 pub struct Skipped {
     pub at: Position,
@@ -162,7 +163,7 @@ pub fn skip(text: &[u8], p: Position, errors: &mut [u8], used: usize) -> Skipped
                 errors,
                 used,
                 false,
-                error_kinds::UNTERMINATED_BLOCK_COMMENT,
+                ErrorKind::UnterminatedBlockComment,
                 at,
                 end,
             );

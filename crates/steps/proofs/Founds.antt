@@ -44,7 +44,7 @@ module _ (s : List ℕ) (p q : Position) (texts texts' : List ℕ) (ut te : ℕ)
   -- A token whose text is made: its text and its errors were written.
   pub made_found : (kind : ℕ) (t : Text) (o : Bool) → is_made kind ≡ true → OneToken s p kind t q q → Put texts texts' ut (encode t) te
       → Put errors errors' ue (error_bytes (errors_at s p)) ee → (segment_at s p).open_end ≡ o
-      → Found s (cur.Outside p) p.offset texts ut errors ue (made_token kind p q ut te ee o) (outside_at q) texts' errors'
+      → Found s (cur.Outside p) p.offset texts ut errors ue (made_token kind p q ut (record { texts = te; errors = ee }) o) (outside_at q) texts' errors'
   made_found kind t o m one a b e =
       let token : Token = record { kind = kind; text = t; span = span p q } in
       record {
@@ -67,7 +67,7 @@ module _ (s : List ℕ) (p q : Position) (texts texts' : List ℕ) (ut te : ℕ)
   -- The same where it has no errors.
   pub clean_found : (kind : ℕ) (t : Text) (o : Bool) → is_made kind ≡ true → OneToken s p kind t q q → Put texts texts' ut (encode t) te
       → errors_at s p ≡ [] → errors' ≡ errors → ee ≡ ue → (segment_at s p).open_end ≡ o
-      → Found s (cur.Outside p) p.offset texts ut errors ue (made_token kind p q ut te ee o) (outside_at q) texts' errors'
+      → Found s (cur.Outside p) p.offset texts ut errors ue (made_token kind p q ut (record { texts = te; errors = ee }) o) (outside_at q) texts' errors'
   clean_found kind t o m one a f k n e =
       made_found kind t o m one a
       (subst (λ (es : List TokenizeError). Put errors errors' ue (error_bytes es) ee) (sym f)
@@ -77,7 +77,7 @@ module _ (s : List ℕ) (p q : Position) (texts : List ℕ) (ut : ℕ) (errors e
   -- An unexpected character: its text is a part of the script.
   pub part_found : (t : Text) → OneToken s p Error t q q → slice p.offset q.offset s ≡ encode t
       → Put errors errors' ue (error_bytes (errors_at s p)) ee → (segment_at s p).open_end ≡ false
-      → Found s (cur.Outside p) p.offset texts ut errors ue (part_token p q ut ee) (outside_at q) texts errors'
+      → Found s (cur.Outside p) p.offset texts ut errors ue (part_token p q (record { texts = ut; errors = ee })) (outside_at q) texts errors'
   part_found t one f b e =
       let token : Token = record { kind = Error; text = t; span = span p q } in
       let n : length (slice p.offset q.offset s) ≡ q.offset - p.offset = length-slice p.offset q.offset s one.reach.within.inside in

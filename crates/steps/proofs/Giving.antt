@@ -86,7 +86,7 @@ module _ (s : List ℕ) (p : Position) (texts : List ℕ) (ut : ℕ) (errors : L
   unfolding rest_of rest rest_within
   at_end = ap (λ (cs : Text). rest_of (left (cur.Outside p) cs)) e ∙ ap rest_of (left_end p)
 
-  pub end_gives : GivesOf (rest_outside s p) s texts ut errors ue (end_token p ut ue false) ended texts errors
+  pub end_gives : GivesOf (rest_outside s p) s texts ut errors ue (end_token p (record { texts = ut; errors = ue }) false) ended texts errors
   end_gives =
       let t = put_none texts ut in
       let none = subst (λ (bs : List ℕ). Put texts texts ut bs ut) (sym (made_none ut (eof p) eof_part)) t in
@@ -120,7 +120,7 @@ pub before_gives : (s : List ℕ) (c : cursor.Cursor) (cs : Text) (d : cursor.Cu
     (texts : List ℕ) (ut : ℕ) (errors mid : List ℕ) (ue me : ℕ) (t u : code.Token) (c' : Cursor) (texts' errors' : List ℕ)
     → Yields c cs [] es o d ds → Put errors mid ue (error_bytes es) me
     → GivesOf (rest_of (left d ds)) s texts ut mid me t c' texts' errors'
-    → u ≡ record { kind = t.kind; span = t.span; offset = t.offset; length = t.length; texts = t.texts; errors = t.errors; ran_out = o || t.ran_out }
+    → u ≡ record { fields = t.fields; fill = t.fill; ran_out = o || t.ran_out }
     → GivesOf (rest_of (left c cs)) s texts ut errors ue u c' texts' errors'
 before_gives s c cs d ds es o texts ut errors mid ue me t u c' texts' errors' y w g h =
     rw h (
@@ -154,7 +154,7 @@ module _ (s texts : List ℕ) (ut : ℕ) (errors : List ℕ) (ue : ℕ) (texts' 
 
   -- A step that gives nothing more of errors before it.
   same_token : (t : code.Token) (o : Bool) → o ≡ false
-      → t ≡ record { kind = t.kind; span = t.span; offset = t.offset; length = t.length; texts = t.texts; errors = t.errors; ran_out = o || t.ran_out }
+      → t ≡ record { fields = t.fields; fill = t.fill; ran_out = o || t.ran_out }
   same_token t o e = rw e
 
   pub before_given : (c : cursor.Cursor) (cs : Text) (d : cursor.Cursor) (ds : Text) (es : List TokenizeError) (o : Bool) (old : List ℕ) (u : ℕ) (r : Step)

@@ -85,12 +85,12 @@ pub record GivesOf (r : Rest) (s : List ℕ) (texts₀ : List ℕ) (usedTexts : 
   pub token : rules.Token
   pub errors : List rules.TokenizeError
   pub same : r ≡ and_then token errors t.ran_out (rest s c')
-  pub kind : t.kind ≡ token.kind
-  pub entry : token_record t.kind t.span t.offset t.length ≡ record_of usedTexts (as_bytes token)
+  pub kind : t.fields.kind ≡ token.kind
+  pub entry : token_record t.fields.kind t.fields.span t.fields.offset t.fields.length ≡ record_of usedTexts (as_bytes token)
   pub text_written : texts₁ ≡ sets texts₀ usedTexts (made_text (as_bytes token))
-  pub text_used : t.texts ≡ usedTexts + length (made_text (as_bytes token))
+  pub text_used : t.fill.texts ≡ usedTexts + length (made_text (as_bytes token))
   pub errors_written : errors₁ ≡ sets errors₀ usedErrors (error_bytes errors)
-  pub errors_used : t.errors ≡ usedErrors + length (error_bytes errors)
+  pub errors_used : t.fill.errors ≡ usedErrors + length (error_bytes errors)
   pub good : Good s c'
 
 -- A step from the cursor `c`.

@@ -19,6 +19,7 @@ use Rattle.steps.specs.Step.{Good, GivenBy, rest_outside}
 use Rattle.steps.specs.declared.Within as W
 use Rattle.steps.specs.declared.Within.TheVariants.{Outside, Inside, Ended}
 use Rattle.steps.specs.declared.Cursor.{Cursor}
+use Rattle.steps.specs.declared.Fill.{Fill}
 use Rattle.steps.specs.declared.Token.{Token}
 use Rattle.steps.specs.declared.Step.{Step}
 use Rattle.steps.specs.declared.Step.TheVariants as step
@@ -28,57 +29,45 @@ use Rattle.steps.specs.declared.Step.TheVariants as step
 abbrev pub outside_at : Position → Cursor
 outside_at p = record { at = p; within = Outside }
 
-abbrev pub end_token : Position → ℕ → ℕ → Bool → Token
-end_token p texts errors o =
-    record { kind = EOF; span = current_span p; offset = 0; length = 0; texts = texts; errors = errors; ran_out = o }
+abbrev pub end_token : Position → Fill → Bool → Token
+end_token p fill o =
+    record { fields = record { kind = EOF; span = current_span p; offset = 0; length = 0 }; fill = fill; ran_out = o }
 
-abbrev pub end_step : Position → ℕ → ℕ → Bool → Step
-end_step p texts errors o = step.Token (end_token p texts errors o) (record { at = p; within = Ended })
+abbrev pub end_step : Position → Fill → Bool → Step
+end_step p fill o = step.Token (end_token p fill o) (record { at = p; within = Ended })
 
-abbrev pub word_token : Position → Word → ℕ → ℕ → Token
-word_token p w texts errors =
+abbrev pub word_token : Position → Word → Fill → Token
+word_token p w fill =
     record {
-      kind = w.kind;
-      span = span p (onward p w.extent);
-      offset = p.offset;
-      length = w.length;
-      texts = texts;
-      errors = errors;
+      fields = record { kind = w.kind; span = span p (onward p w.extent); offset = p.offset; length = w.length };
+      fill = fill;
       ran_out = false;
     }
 
-abbrev pub word_step : Position → Word → ℕ → ℕ → Step
-word_step p w texts errors = step.Token (word_token p w texts errors) (outside_at (onward p w.length))
+abbrev pub word_step : Position → Word → Fill → Step
+word_step p w fill = step.Token (word_token p w fill) (outside_at (onward p w.length))
 
-abbrev pub made_token : ℕ → Position → Position → ℕ → ℕ → ℕ → Bool → Token
-made_token kind p q offset texts errors o =
+abbrev pub made_token : ℕ → Position → Position → ℕ → Fill → Bool → Token
+made_token kind p q offset fill o =
     record {
-      kind = kind;
-      span = span p q;
-      offset = offset;
-      length = texts - offset;
-      texts = texts;
-      errors = errors;
+      fields = record { kind = kind; span = span p q; offset = offset; length = fill.texts - offset };
+      fill = fill;
       ran_out = o;
     }
 
-abbrev pub made_step : ℕ → Position → Position → ℕ → ℕ → ℕ → Bool → Step
-made_step kind p q offset texts errors o = step.Token (made_token kind p q offset texts errors o) (outside_at q)
+abbrev pub made_step : ℕ → Position → Position → ℕ → Fill → Bool → Step
+made_step kind p q offset fill o = step.Token (made_token kind p q offset fill o) (outside_at q)
 
-abbrev pub part_token : Position → Position → ℕ → ℕ → Token
-part_token p q texts errors =
+abbrev pub part_token : Position → Position → Fill → Token
+part_token p q fill =
     record {
-      kind = Error;
-      span = span p q;
-      offset = p.offset;
-      length = q.offset - p.offset;
-      texts = texts;
-      errors = errors;
+      fields = record { kind = Error; span = span p q; offset = p.offset; length = q.offset - p.offset };
+      fill = fill;
       ran_out = false;
     }
 
-abbrev pub part_step : Position → Position → ℕ → ℕ → Step
-part_step p q texts errors = step.Token (part_token p q texts errors) (outside_at q)
+abbrev pub part_step : Position → Position → Fill → Step
+part_step p q fill = step.Token (part_token p q fill) (outside_at q)
 
 -- ── A token that was found ──
 
@@ -97,10 +86,10 @@ is_ended Ended = true
 -- before it, and the errors' records behind those before them.
 pub record Written (texts₀ : List ℕ) (usedTexts : ℕ) (errors₀ : List ℕ) (usedErrors : ℕ) (t : Token) (token : rules.Token)
     (es : List rules.TokenizeError) (texts₁ errors₁ : List ℕ) : Type 0 where
-  pub kind : t.kind ≡ token.kind
-  pub entry : token_record t.kind t.span t.offset t.length ≡ record_of usedTexts (as_bytes token)
-  pub texts : Put texts₀ texts₁ usedTexts (made_text (as_bytes token)) t.texts
-  pub errors : Put errors₀ errors₁ usedErrors (error_bytes es) t.errors
+  pub kind : t.fields.kind ≡ token.kind
+  pub entry : token_record t.fields.kind t.fields.span t.fields.offset t.fields.length ≡ record_of usedTexts (as_bytes token)
+  pub texts : Put texts₀ texts₁ usedTexts (made_text (as_bytes token)) t.fill.texts
+  pub errors : Put errors₀ errors₁ usedErrors (error_bytes es) t.fill.errors
 
 -- From the rules' cursor `c`, which stands at a place: the next token is `t`, and then the cursor `c'`.
 pub record Found (s : List ℕ) (c : cursor.Cursor) (place : ℕ) (texts₀ : List ℕ) (usedTexts : ℕ) (errors₀ : List ℕ) (usedErrors : ℕ)

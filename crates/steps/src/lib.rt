@@ -1,7 +1,8 @@
 // What a scanning step is: where the cursor stands, and the token that a step gives.
 #![tactic(auto)]
 
-use spans::{Position, Span};
+use records::answers::TokenRecord;
+use spans::Position;
 
 pub mod made; // made.rt: the steps that give a token
 
@@ -27,20 +28,16 @@ pub struct Fill {
     pub errors: usize,
 }
 
-// A token: what its record holds, the bytes used in the text buffer and in the error buffer behind it, and whether the text ran
-// out in it.
+// A token: the fields of its record, how far the two buffers are filled behind it, and whether the text ran out in it. The token counts
+// either way, so the flag is no Option.
 #[derive(Clone, Copy)]
 pub struct Token {
-    pub kind: u8,
-    pub span: Span,
-    pub offset: usize,
-    pub length: usize,
-    pub texts: usize,
-    pub errors: usize,
+    pub fields: TokenRecord,
+    pub fill: Fill,
     pub ran_out: bool,
 }
 
-// A token and the next cursor, or the end.
+// A token and the next cursor, or the end: no Option of a pair, since document 01 names this form ("Each place and its form").
 #[derive(Clone, Copy)]
 pub enum Step {
     Token(Token, Cursor),

@@ -16,14 +16,16 @@ use Rattle.rules.specs.Tokens.{TokenizeError}
 use Rattle.rules.specs.Lexer.{advances, span}
 use Rattle.cursor.specs.Strings.{StringUnit, plain_unit, unit_of, stands, unit_errors, units_made, units_errors}
 use Rattle.cursor.proofs.Units.{Whole, made_none, errors_none, whole_none, unit_made, unit_errors_lem, whole_unit, whole_join}
-use Rattle.records.specs.Records.{error_record}
+use Rattle.records.specs.declared.errors.ErrorKind.{ErrorKind}
+use Rattle.records.specs.declared.errors.ErrorKind.TheVariants as kind
+use Rattle.records.specs.Errors.{error_of}
 use Rattle.bridge.specs.Bridge.{onward, is_plain}
 use Rattle.output.specs.Writing.{Put}
 use Rattle.walks.proofs.Errors.{put_one, errors_size_lem}
 use Rattle.string_units.specs.declared.Made.{Made}
 use Rattle.string_units.specs.declared.Mistake.{Mistake}
 use Rattle.string_units.specs.declared.Mistake.TheVariants as mistake
-use Rattle.records.specs.Layout.{code_of, error_bytes}
+use Rattle.records.specs.Layout.{error_record_of, error_bytes}
 use Rattle.string_units.specs.Units.{made_bytes, span_behind, mistakes}
 use Rattle.string_units.proofs.UnitLaws.{no_error, stands_plain}
 
@@ -48,18 +50,18 @@ module _ (old new : List ℕ) (at r : ℕ) (p : Position) where
   mistake_put m n e w = subst (λ (x : Option Mistake). Put old new at (error_bytes (mistakes p x)) r) (sym e) w
 
   -- An error behind the backslash.
-  pub unicode_put : Put old new at (error_record BadUnicodeEscape (span_behind p) 0) r → Put old new at (error_bytes (mistakes p (Some mistake.BadUnicode))) r
-  unfolding code_of
+  pub unicode_put : Put old new at (error_record_of (error_of (record { kind = kind.BadUnicodeEscape; span = span_behind p }))) r
+      → Put old new at (error_bytes (mistakes p (Some mistake.BadUnicode))) r
   unicode_put w = put_one old new at r (record { kind = BadUnicodeEscape; span = span_behind p; char = none }) w
 
-  pub escape_put : (e : ℕ) → Put old new at (error_record BadEscape (span_behind p) e) r → Put old new at (error_bytes (mistakes p (Some (mistake.BadEscape e)))) r
-  unfolding code_of
+  pub escape_put : (e : ℕ) → Put old new at (error_record_of (error_of (record { kind = kind.BadEscape e; span = span_behind p }))) r
+      → Put old new at (error_bytes (mistakes p (Some (mistake.BadEscape e)))) r
   escape_put e w = put_one old new at r (record { kind = BadEscape; span = span_behind p; char = some e }) w
 
-  pub behind_put : (k c : ℕ) (q : Position) (s : Span) → q ≡ onward p 1 → s ≡ span q q → Put old new at (error_record k s c) r
-      → Put old new at (error_record k (span_behind p) c) r
-  behind_put k c q s x y w =
-      subst (λ (z : Span). Put old new at (error_record k z c) r) (y ∙ ap (λ (z : Position). span z z) x) w
+  pub behind_put : (k : ErrorKind) (q : Position) (s : Span) → q ≡ onward p 1 → s ≡ span q q
+      → Put old new at (error_record_of (error_of (record { kind = k; span = s }))) r → Put old new at (error_record_of (error_of (record { kind = k; span = span_behind p }))) r
+  behind_put k q s x y w =
+      subst (λ (z : Span). Put old new at (error_record_of (error_of (record { kind = k; span = z }))) r) (y ∙ ap (λ (z : Position). span z z) x) w
 
 -- ── Characters that stand for themselves ──
 

@@ -3,14 +3,15 @@
 
 ghost use Rattle.std.specs.Prelude.{◌+◌, ◌*◌, ◌≤◌, length};
 ghost use Rattle.rules.specs.Script.{LIMIT};
-ghost use Rattle.records.specs.Records.{error_record};
+ghost use Rattle.records.specs.Errors.{error_of};
 ghost use Rattle.bridge.specs.Bridge.{Within, Fits};
 ghost use Rattle.output.specs.Writing.{Put, PLACES};
-ghost use Rattle.records.specs.Layout.{error_bytes};
+ghost use Rattle.records.specs.Layout.{error_record_of, error_bytes};
 ghost use Rattle.string_units.specs.Units.{made_bytes, IsChar, span_behind, mistakes};
 ghost use Rattle.string_runs.specs.Runs.{USED, Room, Wrote, RunAt};
 
-use rules::error_kinds::{BAD_ESCAPE, BAD_UNICODE_ESCAPE};
+use records::answers::ErrorRecord;
+use records::errors::ErrorKind;
 use spans::Position;
 use string_units::{Made, Mistake};
 use walks::error;
@@ -54,14 +55,14 @@ pub fn put_made(
 }
 
 // Writes the error of this kind that stands behind the backslash at p.
-fn put_behind(p: Position, kind: u8, code: u32, errors: &mut [u8], at: usize) -> usize
+fn put_behind(p: Position, kind: ErrorKind, errors: &mut [u8], at: usize) -> usize
     requires fits { Fits p 1 }
     requires at_bound { at ≤ PLACES }
-    ensures { Put errors.old errors.new at (error_record kind (span_behind p) code) result }
+    ensures { Put errors.old errors.new at (error_record_of (error_of (record { kind = kind; span = span_behind p }))) result }
 {
     let q = bridge::along(p, 1);
-    let s = error::between(q, q);
-    output::put_error(errors, at, kind, s, code)
+    let span = error::between(q, q);
+    output::put_error(errors, at, ErrorRecord { kind, span })
 }
 
 // Writes the error of a unit at p.
@@ -72,8 +73,8 @@ pub fn put_mistake(p: Position, mistake: Option<Mistake>, errors: &mut [u8], at:
 {
     match mistake {
         None => at,
-        Some(Mistake::BadUnicode) => put_behind(p, BAD_UNICODE_ESCAPE, 0, errors, at),
-        Some(Mistake::BadEscape(e)) => put_behind(p, BAD_ESCAPE, e, errors, at),
+        Some(Mistake::BadUnicode) => put_behind(p, ErrorKind::BadUnicodeEscape, errors, at),
+        Some(Mistake::BadEscape(e)) => put_behind(p, ErrorKind::BadEscape(e), errors, at),
     }
 }
 

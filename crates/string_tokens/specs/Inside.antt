@@ -10,16 +10,7 @@ use Rattle.steps.specs.declared.Step.{Step}
 use Rattle.steps.specs.declared.Step.TheVariants as step
 
 abbrev pub given_token : Given → Token
-given_token g =
-    record {
-      kind = g.token.kind;
-      span = g.token.span;
-      offset = g.token.offset;
-      length = g.token.length;
-      texts = g.texts;
-      errors = g.errors;
-      ran_out = g.ran_out;
-    }
+given_token g = record { fields = g.token; fill = record { texts = g.texts; errors = g.errors }; ran_out = g.ran_out }
 
 abbrev pub next_cursor : cursor.Cursor → Cursor
 next_cursor (cur.Outside p) = outside_at p

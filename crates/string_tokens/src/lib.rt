@@ -23,15 +23,13 @@ use strings::{Piece, pieces};
 pub fn given_step(g: Given) -> Step
     ensures { result ≡ given_step g }
 {
-    let t = g.token;
-    let span = t.span;
-    let token = Token {
-        kind: t.kind,
-        span,
-        offset: t.offset,
-        length: t.length,
+    let fill = Fill {
         texts: g.texts,
         errors: g.errors,
+    };
+    let token = Token {
+        fields: g.token,
+        fill,
         ran_out: g.ran_out,
     };
     let next = g.next;
@@ -80,9 +78,13 @@ pub fn string_token(
 // The token from a position on whose text and errors were written.
 fn written_token(kind: u8, p: Position, fill: Fill, m: Made) -> Step
     requires { fill.texts ≤ m.texts }
-    ensures { result ≡ made_step kind p m.at fill.texts m.texts m.errors m.ran_out }
+    ensures { result ≡ made_step kind p m.at fill.texts (record { texts = m.texts; errors = m.errors }) m.ran_out }
 {
-    made::made_step(kind, p, m.at, fill.texts, m.texts, m.errors, m.ran_out)
+    let behind = Fill {
+        texts: m.texts,
+        errors: m.errors,
+    };
+    made::made_step(kind, p, m.at, fill.texts, behind, m.ran_out)
 }
 
 // The raw string at a position. This and `letter_token` differ in the function that reads and in the kind, and say no more than these:
@@ -147,13 +149,16 @@ pub fn braces_token(
     ensures { FoundAt text.now p texts.old fill.texts errors.old fill.errors result texts.new errors.new }
 {
     let m = multiline::braces(text, p, texts, fill.texts);
+    let behind = Fill {
+        texts: m.texts,
+        ..fill
+    };
     made::made_step(
         kinds::STRING_INTERP_START,
         p,
         m.at,
         fill.texts,
-        m.texts,
-        fill.errors,
+        behind,
         m.ran_out,
     )
 }

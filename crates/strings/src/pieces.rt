@@ -9,14 +9,15 @@ use characters::LINE_FEED;
 use cursor::Cursor;
 use interpolations::Given;
 use records::answers::TokenRecord;
-use rules::error_kinds::{LINE_FEED_IN_STRING, UNTERMINATED_STRING};
+use records::errors::ErrorKind;
 use rules::kinds;
 use spans::Position;
 use string_runs::Run;
 use string_units::QUOTE;
 use walks::error;
 
-// The literal from `start` to `end` whose text stands in the texts from a place on, up to where the run `r` left off.
+// The literal from `start` to `end` whose text stands in the texts from a place on, up to where the run `r` left off. The flag
+// `ran_out` goes into the token, which counts either way.
 fn literal(
     start: Position,
     end: Position,
@@ -45,7 +46,8 @@ fn literal(
     })
 }
 
-// The step at p, inside the string that began at `start`; `first` is whether the string has only begun.
+// The step at p, inside the string that began at `start`; `first` is whether the string has only begun: an empty literal is then a
+// token. It is a flag and no second function, since all else is the same.
 pub fn piece(
     text: &[u8],
     p: Position,
@@ -63,12 +65,12 @@ pub fn piece(
     let r = string_runs::run_units(text, p, texts, used_texts, errors, used_errors);
     let stop = r.at;
     let Some((c, q)) = bridge::look(text, stop) else {
-        let noted = error::put_unclosed(errors, r.errors, false, UNTERMINATED_STRING, stop, stop);
+        let noted = error::put_unclosed(errors, r.errors, false, ErrorKind::UnterminatedString, stop, stop);
         let outside = Cursor::Outside(stop);
         return literal(start, stop, used_texts, r, outside, true, noted);
     };
     if c == LINE_FEED {
-        let noted = error::put_unclosed(errors, r.errors, false, LINE_FEED_IN_STRING, start, stop);
+        let noted = error::put_unclosed(errors, r.errors, false, ErrorKind::LineFeedInString, start, stop);
         let next = Cursor::Outside(stop);
         return literal(start, stop, used_texts, r, next, false, noted);
     }

@@ -5,6 +5,8 @@ ghost use Rattle.output.specs.Writing.{Put, PLACES};
 ghost use Rattle.records.specs.Layout.{error_bytes};
 ghost use Rattle.walks.specs.Errors.{unclosed};
 
+use records::answers::ErrorRecord;
+use records::errors::ErrorKind;
 use spans::{Position, Span};
 
 // The span from one position to another.
@@ -21,7 +23,7 @@ pub fn put_unclosed(
     errors: &mut [u8],
     at: usize,
     closed: bool,
-    kind: u8,
+    kind: ErrorKind,
     p: Position,
     q: Position,
 ) -> usize
@@ -32,5 +34,5 @@ pub fn put_unclosed(
         return at;
     }
     let span = between(p, q);
-    output::put_error(errors, at, kind, span, 0)
+    output::put_error(errors, at, ErrorRecord { kind, span })
 }

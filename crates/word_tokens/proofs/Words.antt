@@ -113,7 +113,7 @@ module _ (s : List ℕ) (p : Position) (w : Word) (texts : List ℕ) (ut : ℕ) 
   entry false h m = bare_entry ut found p.offset w.length h
 
   pub word_found : PlainKind w.kind
-      → Found s (cur.Outside p) p.offset texts ut errors ue (word_token p w ut ue) (outside_at (onward p w.length)) texts errors
+      → Found s (cur.Outside p) p.offset texts ut errors ue (word_token p w (record { texts = ut; errors = ue })) (outside_at (onward p w.length)) texts errors
   word_found m =
       record {
         token = found;

@@ -29,7 +29,15 @@ pub fn unexpected_token(
     ensures { FoundAt text.now p texts.old fill.texts errors.old fill.errors result texts.new errors.new }
 {
     let m = multiline::unexpected(text, p, errors, fill.errors);
-    made::part_step(p, m.at, fill.texts, m.errors)
+    let errors_end = m.errors;
+    made::part_step(
+        p,
+        m.at,
+        Fill {
+            errors: errors_end,
+            ..fill
+        },
+    )
 }
 
 // The word at a position, whose first byte is of the class `class`.
@@ -39,7 +47,7 @@ pub fn word_token(tables: &Tables, text: &[u8], p: Position, class: u8, fill: Fi
     ensures { FoundBare text.now p fill.texts fill.errors result }
 {
     let w = tables.word_at(text, p.offset, class);
-    made::word_step(p, w, fill.texts, fill.errors)
+    made::word_step(p, w, fill)
 }
 
 // Where no word, string or mark begins: the end of the text, or a character that begins nothing.
@@ -50,7 +58,7 @@ pub fn other_step(text: &[u8], p: Position, texts: &mut [u8], errors: &mut [u8],
     ensures { GivenAt text.now p texts.old fill.texts errors.old fill.errors result texts.new errors.new }
 {
     let Some(_) = bridge::look(text, p) else {
-        return made::end_step(p, fill.texts, fill.errors, false);
+        return made::end_step(p, fill, false);
     };
     unexpected_token(text, p, texts, errors, fill)
 }

@@ -6,12 +6,12 @@ use Rattle.listing_lines.proofs.put_head.Goals as goal
 
 pub put_field-q-requires : goal.put_field-q-requires
 unfolding head_of
-put_field-q-requires c = room_front _ _ _ (room_then _ _ _ _ _ _ c.requires c.put_byte-p.ensures)
+put_field-q-requires c = rw c.from.ensures (room_front _ _ _ (room_then _ _ _ _ _ _ c.requires c.put_byte-p.ensures))
 
 pub put_span-requires : goal.put_span-requires
 unfolding head_of
-put_span-requires c = room_then _ _ _ _ _ _ c.requires (put_then _ _ _ _ _ _ _ _ c.put_byte-p.ensures c.put_field-q.ensures)
+put_span-requires c = room_then _ _ _ _ _ _ c.requires (put_then _ _ _ _ _ _ _ _ c.put_byte-p.ensures (rw c.from.ensures at c.put_field-q.ensures))
 
 pub returns : goal.returns
 unfolding head_of
-returns c = put_then _ _ _ _ _ _ _ _ (put_then _ _ _ _ _ _ _ _ c.put_byte-p.ensures c.put_field-q.ensures) c.put_span.ensures
+returns c = put_then _ _ _ _ _ _ _ _ (put_then _ _ _ _ _ _ _ _ c.put_byte-p.ensures (rw c.from.ensures at c.put_field-q.ensures)) c.put_span.ensures

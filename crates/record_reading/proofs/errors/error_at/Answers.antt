@@ -1,5 +1,5 @@
 use mathlib.Core.Path.{sym, ◌∙◌}
-use Rattle.record_reading.proofs.Places.{error_head, error_tail, error_code_at, error_bare_at}
+use Rattle.record_reading.proofs.Places.{error_head, error_tail, error_code_at, error_bare_at, error_kind_is}
 use Rattle.record_reading.specs.Reading.{kind_at}
 use native.Mathlib.Omega.{arith}
 use Rattle.record_reading.proofs.errors.error_at.Goals as goal
@@ -23,8 +23,16 @@ get32-code-requires c = omega (arith, error_tail _ _ c.requires (sym c.has_code.
 
 pub returns-then-has_code : goal.returns-then-has_code
 unfolding kind_at
-returns-then-has_code c = error_code_at _ _ _ _ (sym c.has_code.ensures ∙ c.if-has_code.true) c.get_span-span.ensures c.get32-code.ensures.0
+returns-then-has_code c = error_code_at _ _ _ _ _ c.get_span-span.ensures c.get32-code.ensures.0 c.of-kind.ensures
 
 pub returns : goal.returns
 unfolding kind_at
-returns c = error_bare_at _ _ _ (sym c.has_code.ensures ∙ c.if-has_code.false) c.get_span-span.ensures
+returns c = error_bare_at _ _ _ _ (sym c.has_code.ensures ∙ c.if-has_code.false) c.get_span-span.ensures c.of-kind-2.ensures
+
+pub of-kind-requires : goal.of-kind-requires
+unfolding kind_at
+of-kind-requires c = error_kind_is _ _ c.requires
+
+pub of-kind-requires-2 : goal.of-kind-requires-2
+unfolding kind_at
+of-kind-requires-2 c = error_kind_is _ _ c.requires
