@@ -1,6 +1,8 @@
 -- The bridge between the code and the rules. Places of the code are bytes of a text `s`; `chars_at s at` is what the rules see from
 -- a place on.
 use Rattle.std.specs.Prelude.{◌≡◌, Bool, true, ◌&&◌, not, List, [], ◌∷◌, ◌++◌, ℕ, ◌+◌, ◌*◌, ◌≤◌, ◌<◌, leb, length, Option, Some, None}
+use Rattle.std.proofs.Math.Option.{none, some}
+use Rattle.std.proofs.Math.Option as found
 use Rattle.std.proofs.Math.Seq.{slice}
 use Rattle.characters.specs.Choice.{◌is◌}
 use Rattle.characters.specs.Utf8.{chars_at, is_valid}
@@ -11,7 +13,17 @@ use Rattle.rules.specs.Text.{Char, Text}
 use Rattle.rules.specs.Scan.{Part, run}
 use Rattle.rules.specs.Lexer.{advances}
 
+-- ── What was found ──
+
+-- What the rules find or do not find, as the code answers it.
+abbrev pub value_of : found.Option ℕ → Option ℕ
+value_of none = None
+value_of (some v) = Some v
+
 -- ── Positions ──
+
+-- Where a function asks `Within s p`, its text and its position are two parameters: it speaks of several positions in one text, and a
+-- struct of both would carry the text in each.
 
 -- The position at a place, where lines and columns play no part.
 abbrev pub placed : ℕ → Position
@@ -83,6 +95,11 @@ exactly b c = c is b
 -- A byte that is a character, and is not what stands past the end (0).
 abbrev pub Letter : ℕ → Type 0
 Letter b = (1 ≤ b) × (b ≤ 0x7F)
+
+-- Bytes that are such.
+abbrev pub Letters : List ℕ → Type 0
+Letters [] = Unit
+Letters (b ∷ bs) = Letter b × Letters bs
 
 -- A text that is as many bytes as characters, and moves along its line.
 abbrev pub Flat : Text → Type 0

@@ -7,10 +7,8 @@ ghost use Rattle.rules.specs.Scan.{next};
 ghost use Rattle.rules.specs.Lexer.{advance};
 ghost use Rattle.bridge.specs.Bridge.{placed, Fits, Letter, exactly, onward, Within, NextAt, is_plain, Stops, PastRun, RunEnd};
 
-use characters::Decoded;
+use characters::{Decoded, LINE_FEED};
 use spans::Position;
-
-const LINE_FEED: u32 = b'\n' as u32;
 
 // The first character behind the line feed: from it on each moves along its line.
 const BEHIND_LINE_FEED: u8 = b'\n' + 1;

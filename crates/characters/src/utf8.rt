@@ -6,11 +6,12 @@ ghost use Rattle.characters.specs.Valid.{bad_from};
 
 use super::Decoded;
 
-// The byte at a place, or 0 past the end.
+// The byte at a place, or 0 past the end. Each test that is asked of it refuses a NUL byte too, so no caller needs a case for the end,
+// which an Option would ask for.
 pub fn byte_at(text: &[u8], at: usize) -> u8
     ensures { result ≡ get_or text.now at 0 }
 {
-    if at < text.len() { text[at] } else { 0 }
+    text.get(at).copied().unwrap_or(0)
 }
 
 // Whether `b` is one from `lo` to `hi`.
@@ -26,13 +27,14 @@ pub fn is_tail(b: u8) -> bool
     (0x80..=0xBF).contains(&b)
 }
 
-// The characters of two, three and four bytes whose tails are such: the bits of the first byte behind its marker, then six of each.
+// The characters of two, three and four bytes whose tails are such: the bits of the first byte behind its marker, then six of each. They
+// are three, as in the RFC: one over an array of bytes would look the marker up by the width.
 pub fn code_two(a: u8, b: u8) -> Decoded
     requires le_a { 0xC0 ≤ a }
     requires le_b { 0x80 ≤ b }
     ensures { result ≡ code_two a b }
 {
-    Decoded::Code(((a as u32) - 0xC0) * 64 + ((b as u32) - 0x80), 2)
+    Decoded::Code((u32::from(a) - 0xC0) * 64 + (u32::from(b) - 0x80), 2)
 }
 
 pub fn code_three(a: u8, b: u8, c: u8) -> Decoded
@@ -42,7 +44,7 @@ pub fn code_three(a: u8, b: u8, c: u8) -> Decoded
     ensures { result ≡ code_three a b c }
 {
     Decoded::Code(
-        ((a as u32) - 0xE0) * 4096 + ((b as u32) - 0x80) * 64 + ((c as u32) - 0x80),
+        (u32::from(a) - 0xE0) * 4096 + (u32::from(b) - 0x80) * 64 + (u32::from(c) - 0x80),
         3,
     )
 }
@@ -55,10 +57,10 @@ pub fn code_four(a: u8, b: u8, c: u8, d: u8) -> Decoded
     ensures { result ≡ code_four a b c d }
 {
     Decoded::Code(
-        ((a as u32) - 0xF0) * 262144
-            + ((b as u32) - 0x80) * 4096
-            + ((c as u32) - 0x80) * 64
-            + ((d as u32) - 0x80),
+        (u32::from(a) - 0xF0) * 262144
+            + (u32::from(b) - 0x80) * 4096
+            + (u32::from(c) - 0x80) * 64
+            + (u32::from(d) - 0x80),
         4,
     )
 }
@@ -73,7 +75,7 @@ pub fn decode_valid(text: &[u8], at: usize) -> Decoded
     }
     let a = text[at];
     if a <= 0x7F {
-        return Decoded::Code(a as u32, 1);
+        return Decoded::Code(u32::from(a), 1);
     }
     if a <= 0xDF {
         return code_two(a, text[at + 1]);

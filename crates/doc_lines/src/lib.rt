@@ -6,10 +6,7 @@ ghost use Rattle.characters.specs.Space.{is_white};
 ghost use Rattle.rules.specs.Docs.{trim_end, clean_line};
 ghost use Rattle.doc_lines.specs.Lines.{NextAt, SkippedTold, in_line, is_blank, is_ink, Inked, LineAt, LineTold};
 
-use characters::{Decoded, space, utf8};
-
-// Characters that the lines of a comment are told by.
-const LINE_FEED: u32 = b'\n' as u32;
+use characters::{Decoded, LINE_FEED, space, utf8};
 
 const STAR: u32 = b'*' as u32;
 

@@ -10,13 +10,7 @@ ghost use Rattle.encoding.specs.Encoding.{encoded_at, buffer_after};
 pub fn is_scalar(c: u32) -> bool
     ensures { result ≡ is_scalar c }
 {
-    if c < 0xD800 {
-        return true;
-    }
-    if c <= 0xDFFF {
-        return false;
-    }
-    c <= 0x10FFFF
+    (c <= 0x10FFFF) & !(0xD800..=0xDFFF).contains(&c)
 }
 
 // How many bytes a character has.

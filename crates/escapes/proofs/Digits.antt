@@ -1,33 +1,26 @@
 -- Laws of hexadecimal digits: one, and several one after another. Assumes nothing.
-use Rattle.std.specs.Prelude.{if◌then◌else◌, Some, None}
+use Rattle.std.specs.Prelude.{if◌then◌else◌, SomeIff, Some, None, Option as Answer}
+use Rattle.std.specs.Char.{digit_value}
+use Rattle.std.proofs.lemmas.Bool.Decides.{nat_tests}
 use mathlib.Core.Path.{◌≡◌, refl, sym, ◌∙◌, ap}
 use mathlib.Core.Bool.{Bool, true, false, ◌||◌, false≢true}
 use mathlib.Core.List.{List, [], ◌∷◌, ◌++◌}
-use mathlib.Core.Option.{Option, none, some}
-use Prim.Native.Nat.{ℕ, zero, suc, ◌+◌, ◌-◌, ◌*◌, ◌<◌}
+use mathlib.Core.Logic.{◌⊎◌}
+use mathlib.Core.Option.{none, some}
+use Prim.Native.Nat.{ℕ, zero, suc, ◌+◌, ◌-◌, ◌*◌, ◌≤◌, ◌<◌}
 use lib.ListN.{length, take, get_or}
 use native.Mathlib.Omega.{arith}
 use native.Mathlib.Nat.{add-zero}
 use Rattle.characters.specs.Choice.{within}
 use Rattle.characters.specs.Utf8.{chars_at}
-use Rattle.characters.proofs.Choice.{within_bounds}
+use Rattle.characters.proofs.Choice.{or_neither, within_bounds, within_outside}
 use Rattle.rules.specs.Text.{Text, is_digit, is_hex_digit, hex_value}
 use Rattle.rules.specs.Scan.{next}
 use Rattle.rules.specs.Strings.{hex_code}
-use Rattle.bridge.specs.Bridge.{Low, Flat}
+use Rattle.bridge.specs.Bridge.{value_of, Low, Flat}
 use Rattle.bridge.proofs.Tests.{low_or, low_within, low_weak}
 use Rattle.bridge.proofs.Bytes.{byte_cons, byte_next, next_cons}
-use Rattle.escapes.specs.Escapes.{value_of, digit_of}
-
--- ── Numbers that may be missing ──
-
-pub value_some : (o : Option ℕ) (v : ℕ) → value_of o ≡ Some v → o ≡ some v
-value_some none v e = absurd (let z : ◌≡◌ {A = ℕ} 0 1 = cc in omega arith)
-value_some (some w) v e = let q : w ≡ v = cc in rw q
-
-pub value_none : (o : Option ℕ) → value_of o ≡ None → o ≡ none
-value_none none e = refl
-value_none (some w) e = absurd (let z : ◌≡◌ {A = ℕ} 0 1 = cc in omega arith)
+use Rattle.escapes.specs.Escapes.{digit_of}
 
 -- ── One digit ──
 
@@ -39,21 +32,36 @@ hex_low =
     (low_within 11 97 102 (omega arith) (omega arith))
 
 module _ (b : ℕ) where
-  pub digit_figure : within 48 57 b ≡ true → Some (b - 48) ≡ digit_of b
-  unfolding digit_of is_hex_digit is_digit hex_value
-  digit_figure t = rw t
+  -- The library's `digit_value`: 16 or more of all that is no hexadecimal digit.
+  value_figure : 48 ≤ b → b ≤ 57 → digit_value b ≡ b - 48
+  value_figure l u = grind (arith, nat_tests)
 
-  pub digit_upper : within 48 57 b ≡ false → within 65 70 b ≡ true → Some (b - 55) ≡ digit_of b
-  unfolding digit_of is_hex_digit is_digit hex_value
-  digit_upper f t = rw (f, t)
+  value_upper : 65 ≤ b → b ≤ 70 → digit_value b ≡ b - 55
+  value_upper l u = grind (arith, nat_tests)
 
-  pub digit_lower : within 48 57 b ≡ false → within 65 70 b ≡ false → within 97 102 b ≡ true → Some (b - 87) ≡ digit_of b
-  unfolding digit_of is_hex_digit is_digit hex_value
-  digit_lower f g t = rw (f, g, t)
+  value_lower : 97 ≤ b → b ≤ 102 → digit_value b ≡ b - 87
+  value_lower l u = grind (arith, nat_tests)
 
-  pub digit_none : within 48 57 b ≡ false → within 65 70 b ≡ false → within 97 102 b ≡ false → None ≡ digit_of b
-  unfolding digit_of is_hex_digit is_digit
-  digit_none f g t = rw (f, g, t)
+  value_other : (b < 48) ⊎ (57 < b) → (b < 65) ⊎ (70 < b) → (b < 97) ⊎ (102 < b) → 16 ≤ digit_value b
+  value_other x y z = grind (arith, nat_tests, x, y, z)
+
+  digit_some : is_hex_digit b ≡ true → digit_value b ≡ hex_value b
+  unfolding is_hex_digit is_digit hex_value
+  digit_some h = go (within 48 57 b) (within 65 70 b) (within 97 102 b) refl refl refl h
+    where
+      go : (x y z : Bool) → within 48 57 b ≡ x → within 65 70 b ≡ y → within 97 102 b ≡ z → (x || y || z) ≡ true
+          → digit_value b ≡ (if x then b - 48 else if y then b - 55 else b - 87)
+      go true y z p q r h = let w = within_bounds 48 57 b p in value_figure w.0 w.1
+      go false true z p q r h = let w = within_bounds 65 70 b q in value_upper w.0 w.1
+      go false false true p q r h = let w = within_bounds 97 102 b r in value_lower w.0 w.1
+      go false false false p q r h = absurd (false≢true h)
+
+  digit_none : is_hex_digit b ≡ false → 16 ≤ digit_value b
+  unfolding is_hex_digit is_digit
+  digit_none h =
+      let x = or_neither (within 48 57 b || within 65 70 b) (within 97 102 b) h in
+      let y = or_neither (within 48 57 b) (within 65 70 b) x.0 in
+      value_other (within_outside 48 57 b y.0) (within_outside 65 70 b y.1) (within_outside 97 102 b x.1)
 
 hex_small : (c : ℕ) → is_hex_digit c ≡ true → hex_value c < 16
 unfolding is_hex_digit is_digit hex_value
@@ -65,6 +73,18 @@ hex_small c h = go (within 48 57 c) (within 65 70 c) (within 97 102 c) refl refl
     go false true z p q r h = let w = within_bounds 65 70 c q in omega arith
     go false false true p q r h = let w = within_bounds 97 102 c r in omega arith
     go false false false p q r h = absurd (false≢true h)
+
+-- The library's `to_digit` gives it.
+pub digit_found : (b : ℕ) (r : Answer ℕ) → SomeIff r (digit_value b < 16) (digit_value b) → r ≡ digit_of b
+unfolding digit_of
+digit_found b r e = go (is_hex_digit b) refl r e
+  where
+    go : (t : Bool) → is_hex_digit b ≡ t → (r : Answer ℕ) → SomeIff r (digit_value b < 16) (digit_value b)
+        → r ≡ (if t then Some (hex_value b) else None)
+    go true h None e = let d = digit_some b h in absurd (e (rw d (hex_small b h)))
+    go true h (Some v) e = let d = digit_some b h in ap Some (e.1 ∙ d)
+    go false h None e = refl
+    go false h (Some v) e = let d = digit_none b h in absurd (omega (arith, e.0))
 
 digit_is : (c d : ℕ) → digit_of c ≡ Some d → (is_hex_digit c ≡ true) × (hex_value c ≡ d)
 unfolding digit_of

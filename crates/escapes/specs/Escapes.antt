@@ -1,14 +1,10 @@
--- Numbers that may be missing, as the code answers them.
+-- Hexadecimal digits and the escapes of one letter, as the code answers them.
 use Rattle.std.specs.Prelude as code
 use Rattle.std.specs.Prelude.{List, ℕ, ◌+◌, get_or, if◌then◌else◌, Some, None}
-use Rattle.std.proofs.Math.Option.{Option, none, some}
 use Rattle.characters.specs.Choice.{◌is◌}
 use Rattle.rules.specs.Text.{Char, ch, is_hex_digit, hex_value}
 use Rattle.rules.specs.Tables.{ESCAPES, lookup}
-
-abbrev pub value_of : Option ℕ → code.Option ℕ
-value_of none = None
-value_of (some v) = Some v
+use Rattle.bridge.specs.Bridge.{value_of}
 
 -- The value of a hexadecimal digit.
 unfoldable pub digit_of : Char → code.Option ℕ

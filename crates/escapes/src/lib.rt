@@ -6,16 +6,10 @@ ghost use Rattle.characters.specs.Utf8.{chars_at};
 ghost use Rattle.rules.specs.Tables.{ESCAPES, lookup};
 ghost use Rattle.rules.specs.Strings.{hex_code};
 ghost use Rattle.rules.specs.Script.{LIMIT};
-ghost use Rattle.escapes.specs.Escapes.{value_of, digit_of, short_escape};
+ghost use Rattle.bridge.specs.Bridge.{value_of};
+ghost use Rattle.escapes.specs.Escapes.{digit_of, short_escape};
 
 use characters::utf8;
-
-// What is taken off a hexadecimal digit to get its value: `0` is 0, `A` and `a` are 10.
-const FIGURE_BASE: u32 = b'0' as u32;
-
-const UPPER_BASE: u32 = b'A' as u32 - 10;
-
-const LOWER_BASE: u32 = b'a' as u32 - 10;
 
 const RADIX: u32 = 16;
 
@@ -30,16 +24,7 @@ const FORM_FEED: u8 = 0x0C;
 fn hex_value(b: u8) -> Option<u32>
     ensures { result ≡ digit_of b }
 {
-    if utf8::within(b'0', b'9', b) {
-        return Some((b as u32) - FIGURE_BASE);
-    }
-    if utf8::within(b'A', b'F', b) {
-        return Some((b as u32) - UPPER_BASE);
-    }
-    if utf8::within(b'a', b'f', b) {
-        return Some((b as u32) - LOWER_BASE);
-    }
-    None
+    char::from(b).to_digit(RADIX)
 }
 
 // The value of the hexadecimal digit at a place.
@@ -89,7 +74,7 @@ pub fn escaped(e: u32) -> Option<u32>
     ensures { result ≡ value_of (lookup e ESCAPES) }
 {
     let b = letter_byte(u8::try_from(e).ok()?)?;
-    Some(b as u32)
+    Some(u32::from(b))
 }
 
 // The byte that the backslash and the letter at a place stand for.

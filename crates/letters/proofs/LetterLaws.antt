@@ -17,14 +17,13 @@ use Rattle.rules.specs.Text.{Text}
 use Rattle.rules.specs.Tables.{ESCAPES, lookup}
 use Rattle.rules.specs.Strings.{plain_escape, escape}
 use Rattle.cursor.specs.Strings.{StringUnit, plain_unit}
-use Rattle.bridge.specs.Bridge.{Within, Reach}
+use Rattle.bridge.specs.Bridge.{value_of, Within, Reach}
 use Rattle.bridge.proofs.Reaches.{reach_nil, reach_join}
 use Rattle.walks.proofs.Enclosed.{reach_offset}
 use Rattle.string_units.specs.declared.Made.TheVariants as made
 use Rattle.string_units.specs.declared.Unit as code
 use Rattle.string_units.specs.Units.{unicode_unit, UnitAt}
-use Rattle.escapes.specs.Escapes.{value_of}
-use Rattle.escapes.proofs.Digits.{value_some, value_none}
+use Rattle.bridge.proofs.Values.{value_some, value_none}
 use Rattle.escapes.proofs.Letters.{escape_small}
 use Rattle.string_units.proofs.UnitLaws.{char_unit, no_error, plain_unit_lem}
 use Rattle.characters.proofs.Widths.{width_one}

@@ -1,25 +1,17 @@
 -- Bytes in hexadecimal, written one after another. Assumes nothing.
 use mathlib.Core.Path.{◌≡◌, refl, ap}
 use mathlib.Core.List.{List, [], ◌∷◌}
-use Prim.Native.Nat.{ℕ, ◌+◌, ◌-◌, ◌/◌, ◌%◌, ◌≤◌, ◌<◌}
+use Prim.Native.Nat.{ℕ, ◌+◌, ◌/◌, ◌%◌, ◌≤◌, ◌<◌}
 use native.Mathlib.Numerals.{add-one}
 use native.Mathlib.Omega.{arith}
-use borrow.Author.Tests.{lt-ltb, le-ltb}
 use lib.ListN.{length, get_or, drop, drop_of_length-le}
 use lib.Seq.{drop-cons}
+use Rattle.std.specs.Char.{digit_char}
 use Rattle.output.specs.Writing.{Put, PLACES}
 use Rattle.output.proofs.Buffers.{put_then, Writing, write_start, write_more, write_end}
-use Rattle.listing_fields.specs.Numbers.{hex_digit, hex_of}
+use Rattle.listing_fields.specs.Numbers.{hex_of}
 use Rattle.listing_fields.specs.Fields.{text_field}
 use Rattle.listing_fields.specs.Room.{Room}
-
-pub hex_low : (d : ℕ) → d < 10 → 48 + d ≡ hex_digit d
-unfolding hex_digit
-hex_low d h = rw (lt-ltb d 10 h)
-
-pub hex_high : (d : ℕ) → 10 ≤ d → 97 + (d - 10) ≡ hex_digit d
-unfolding hex_digit
-hex_high d h = rw (le-ltb d 10 h)
 
 pub two_put : (a b c : List ℕ) (at m r x y u v : ℕ) → x ≡ u → y ≡ v → Put a b at (x ∷ []) m → Put b c m (y ∷ []) r
     → Put a c at (u ∷ v ∷ []) r
@@ -37,19 +29,19 @@ hex_start s b at h = record { ahead = write_start b at (hex_of s); inside = omeg
 
 module _ (s old b : List ℕ) (at i p : ℕ) (g : Hexing s old b at i p) where
   module _ (h : i < length s) where
-    hex_next : hex_of (drop i s) ≡ hex_digit (get_or s i 0 / 16) ∷ hex_digit (get_or s i 0 % 16) ∷ hex_of (drop (i + 1) s)
+    hex_next : hex_of (drop i s) ≡ digit_char (get_or s i 0 / 16) ∷ digit_char (get_or s i 0 % 16) ∷ hex_of (drop (i + 1) s)
     unfolding hex_of
     hex_next = rw (add-one i, drop-cons s i 0 h)
 
     pub hex_place : p < PLACES
     hex_place = omega (arith, ap length hex_next, g.ahead.used, g.low.fits)
 
-    pub hex_more : (c : List ℕ) (r : ℕ) → Put b c p (hex_digit (get_or s i 0 / 16) ∷ hex_digit (get_or s i 0 % 16) ∷ []) r
+    pub hex_more : (c : List ℕ) (r : ℕ) → Put b c p (digit_char (get_or s i 0 / 16) ∷ digit_char (get_or s i 0 % 16) ∷ []) r
         → Hexing s old c at (i + 1) r
     hex_more c r q =
         let w = rw hex_next at g.ahead in
         record {
-          ahead = write_more old b c at p r (hex_digit (get_or s i 0 / 16) ∷ hex_digit (get_or s i 0 % 16) ∷ []) (hex_of (drop (i + 1) s)) (hex_of s) w q;
+          ahead = write_more old b c at p r (digit_char (get_or s i 0 / 16) ∷ digit_char (get_or s i 0 % 16) ∷ []) (hex_of (drop (i + 1) s)) (hex_of s) w q;
           inside = omega arith;
           low = g.low;
         }

@@ -1,5 +1,6 @@
 -- Numbers and bytes as ASCII text.
-use Rattle.std.specs.Prelude.{ℕ, zero, suc, ◌+◌, ◌-◌, ◌/◌, ◌%◌, List, [], ◌∷◌, ◌++◌, ltb, if◌then◌else◌}
+use Rattle.std.specs.Prelude.{ℕ, zero, suc, ◌+◌, ◌/◌, ◌%◌, List, [], ◌∷◌, ◌++◌, ltb, if◌then◌else◌}
+use Rattle.std.specs.Char.{digit_char}
 use Rattle.rules.specs.Text.{ch}
 
 -- The bases.
@@ -21,11 +22,7 @@ DIGITS = 20
 unfoldable pub decimal : ℕ → List ℕ
 decimal n = decimal_in DIGITS n
 
--- 0 to 9, and then a to f.
-unfoldable pub hex_digit : ℕ → ℕ
-hex_digit d = if ltb d TEN then ch "0" + d else ch "a" + (d - TEN)
-
--- Two hexadecimal digits for each byte.
+-- Two hexadecimal digits for each byte, with small letters: the library's `digit_char` gives 0 to 9, and then a to f.
 unfoldable pub hex_of : List ℕ → List ℕ
 hex_of [] = []
-hex_of (b ∷ bs) = hex_digit (b / SIXTEEN) ∷ hex_digit (b % SIXTEEN) ∷ hex_of bs
+hex_of (b ∷ bs) = digit_char (b / SIXTEEN) ∷ digit_char (b % SIXTEEN) ∷ hex_of bs

@@ -2,16 +2,15 @@
 #![tactic(auto)]
 
 ghost use Rattle.std.specs.Prelude.{◌≡◌, [], ◌∷◌, ◌/◌, ◌%◌, ◌≤◌, ◌<◌, length};
+ghost use Rattle.std.specs.Char.{digit_char};
 ghost use Rattle.output.specs.Writing.{Put, PLACES};
-ghost use Rattle.listing_fields.specs.Numbers.{SIXTEEN, hex_digit, hex_of};
+ghost use Rattle.listing_fields.specs.Numbers.{SIXTEEN, hex_of};
 ghost use Rattle.listing_fields.specs.Fields.{field, span_fields, text_field};
 ghost use Rattle.listing_fields.specs.Room.{Room};
 
 use spans::Span;
 
-// The bases, and the most digits of a number of 64 bits.
-const TEN: u8 = 10;
-
+// The base of the bytes of a text, and the most digits of a number of 64 bits.
 const SIXTEEN: u8 = 16;
 
 const DIGITS: usize = 20;
@@ -40,20 +39,13 @@ pub fn put_span(s: Span, buf: &mut [u8], at: usize) -> usize
     put_field(s.end_col as u64, buf, e)
 }
 
-fn hex_digit(d: u8) -> u8
-    requires { d < SIXTEEN }
-    ensures { result ≡ hex_digit d }
-{
-    if d < TEN { b'0' + d } else { b'a' + (d - TEN) }
-}
-
 // A byte as two hexadecimal digits.
 fn put_hex_byte(b: u8, buf: &mut [u8], at: usize) -> usize
     requires { at < PLACES }
-    ensures { Put buf.old buf.new at (hex_digit (b / SIXTEEN) ∷ hex_digit (b % SIXTEEN) ∷ []) result }
+    ensures { Put buf.old buf.new at (digit_char (b / SIXTEEN) ∷ digit_char (b % SIXTEEN) ∷ []) result }
 {
-    let p = output::put_byte(buf, at, hex_digit(b / SIXTEEN));
-    output::put_byte(buf, p, hex_digit(b % SIXTEEN))
+    let p = output::put_byte(buf, at, output::hex_digit(b / SIXTEEN));
+    output::put_byte(buf, p, output::hex_digit(b % SIXTEEN))
 }
 
 // Bytes in hexadecimal.

@@ -24,12 +24,13 @@ use Rattle.bridge.specs.Bridge.{Low, Letter, exactly, Cut}
 use Rattle.bridge.proofs.Tests.{low_weak, low_is, low_one_of, all_low}
 use Rattle.bridge.proofs.Bytes.{byte_cons, byte_next, next_cons, starts_one}
 use Rattle.bridge.proofs.Cuts.{cut_nothing, cut_cons}
+use Rattle.bridge.proofs.Values.{value_some, value_none}
 use Rattle.lexemes.specs.Words.{word_text, WordAt}
 use Rattle.lexemes.proofs.Lists.{rows_at, all_below, below}
 use Rattle.lexemes.proofs.Words.{word_of, text_plain, end_word}
 use Rattle.classes.specs.Classes.{OTHER, mark_chars, place_from, class_of}
 use Rattle.classes.proofs.Laws.{class_low, class_high}
-use Rattle.marks.specs.Marks.{found_or, found_of, char_of, column_of, kind_in, pair_kind, third_kind, mark_table}
+use Rattle.marks.specs.Marks.{found_or, char_of, column_of, kind_in, pair_kind, third_kind, mark_table}
 
 -- ── Look-ups ──
 
@@ -368,20 +369,12 @@ some_row none e = absurd (false≢true e)
 some_row (some r) e = (r, refl)
 
 third_none : (k : ℕ) → None ≡ third_kind k → lookup k THIRDS ≡ none
-unfolding third_kind found_of
-third_none k e = go (lookup k THIRDS) e
-  where
-    go : (o : Option ℕ) → None ≡ found_of o → o ≡ none
-    go none e = refl
-    go (some t) e = let z : ◌≡◌ {A = ℕ} 0 1 = cc in absurd (omega arith)
+unfolding third_kind
+third_none k e = value_none (lookup k THIRDS) (sym e)
 
 third_some : (k t : ℕ) → Some t ≡ third_kind k → lookup k THIRDS ≡ some t
-unfolding third_kind found_of
-third_some k t e = go (lookup k THIRDS) e
-  where
-    go : (o : Option ℕ) → Some t ≡ found_of o → o ≡ some t
-    go none e = let z : ◌≡◌ {A = ℕ} 0 1 = cc in absurd (omega arith)
-    go (some x) e = cc
+unfolding third_kind
+third_some k t e = value_some (lookup k THIRDS) t (sym e)
 
 -- `x` is the next byte's class.
 module _ (s : List ℕ) (at first lone x kind : ℕ) (q : first ≡ class_of (get_or s at 0)) (h : 1 ≤ first) (l : first ≤ 25)

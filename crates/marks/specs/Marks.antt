@@ -1,8 +1,9 @@
 -- The table of marks, by the classes of the first and the next mark.
-use Rattle.std.specs.Prelude.{List, ℕ, zero, suc, leb, get_or, Option as Answer, Some, None, if◌then◌else◌}
+use Rattle.std.specs.Prelude.{List, ℕ, zero, suc, leb, get_or, Option as Answer, if◌then◌else◌}
 use Rattle.std.proofs.Math.Option.{Option, none, some}
 use Rattle.rules.specs.Text.{Char}
 use Rattle.rules.specs.Tables.{Row, MARKS, THIRDS, lookup}
+use Rattle.bridge.specs.Bridge.{value_of}
 use Rattle.lexemes.specs.Lists.{rows_of}
 use Rattle.classes.specs.Classes.{mark_chars, LAST_MARK}
 
@@ -35,14 +36,9 @@ kind_in (some r) d = found_or r.alone (lookup d r.columns)
 unfoldable pub pair_kind : Char → Char → ℕ
 pair_kind c d = kind_in (lookup c MARKS) d
 
--- What a look-up found, as the program gives it.
-unfoldable pub found_of : Option ℕ → Answer ℕ
-found_of none = None
-found_of (some x) = Some x
-
 -- The kind with a third mark equal to the second, where there is one.
 unfoldable pub third_kind : ℕ → Answer ℕ
-third_kind k = found_of (lookup k THIRDS)
+third_kind k = value_of (lookup k THIRDS)
 
 unfoldable pub mark_table : List (List ℕ)
 mark_table = rows_of (λ i j. pair_kind (char_of (suc i)) (char_of j)) COLUMNS LAST_MARK

@@ -59,7 +59,7 @@ fn column_of(class: u8) -> usize
     ensures upper_bound { result ≤ LAST_COLUMN }
 {
     if class <= LAST_COLUMN {
-        return class as usize;
+        return usize::from(class);
     }
     0
 }

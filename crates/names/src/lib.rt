@@ -26,7 +26,7 @@ pub fn is_part(b: u8) -> bool
     if is_letter(b) {
         return true;
     }
-    ((b'0' <= b) & (b <= b'9')) | (b == b'_') | (b == b'$')
+    b.is_ascii_digit() | (b == b'_') | (b == b'$')
 }
 
 // The end of the name at a place.

@@ -14,7 +14,7 @@ use digits::{is_digit, past_binary, past_digits, past_grouped, past_hex};
 use lexemes::Word;
 use rules::kinds;
 
-// The end of a number, and whether it is a float.
+// The end of a number, and whether it is a float. The end counts either way, so that two cases of an enum would say it twice.
 #[derive(Clone, Copy)]
 pub struct Numeral {
     pub end: usize,

@@ -8,6 +8,10 @@ use Rattle.std.proofs.lemmas.List.Edits.{sets}
 abbrev pub PLACES : ℕ
 PLACES = 1152921504606846976
 
+-- How many hexadecimal digits there are.
+abbrev pub HEX : ℕ
+HEX = 16
+
 -- The buffer `old` became `new`: the bytes stand from `at` on, all else keeps, and `r` is the place after them.
 pub record Put (old new : List ℕ) (at : ℕ) (bytes : List ℕ) (r : ℕ) : Type 0 where
   pub written : new ≡ sets old at bytes

@@ -1,18 +1,23 @@
 // Bytes, characters and records written into lent buffers, with no room asked: what does not fit is passed over and counted.
 #![tactic(auto)]
 
-ghost use Rattle.std.specs.Prelude.{[], ◌∷◌, ◌≤◌, length};
+ghost use Rattle.std.specs.Prelude.{◌≡◌, [], ◌∷◌, ◌≤◌, ◌<◌, length};
+ghost use Rattle.std.specs.Char.{digit_char};
 ghost use Rattle.std.proofs.Math.Seq.{slice};
 ghost use Rattle.characters.specs.Utf8.{encode_char};
 ghost use Rattle.records.specs.Records.{token_record};
 ghost use Rattle.records.specs.Errors.{error_of};
 ghost use Rattle.records.specs.Layout.{error_record_of};
-ghost use Rattle.output.specs.Writing.{Put, PLACES};
+ghost use Rattle.output.specs.Writing.{Put, PLACES, HEX};
 
 use records::answers::{ErrorRecord, TokenRecord};
 use records::{fields, kinds};
 
-// One byte.
+// The first number that is no decimal digit.
+const TEN: u8 = 10;
+
+// One byte. A buffer and the place in it are two parameters: as a struct with methods they prove too, but where a method is not inlined
+// the place goes through memory, and a write takes twice the instructions.
 pub fn put_byte(buf: &mut [u8], at: usize, b: u8) -> usize
     requires { at ≤ PLACES }
     ensures { Put buf.old buf.new at (b ∷ []) result }
@@ -37,6 +42,14 @@ pub fn put_bytes(part: &[u8], buf: &mut [u8], at: usize) -> usize
     let n = part.len().min(buf.len() - at);
     buf[at..at + n].copy_from_slice(&part[..n]);
     end
+}
+
+// A hexadecimal digit, with small letters.
+pub fn hex_digit(d: u8) -> u8
+    requires { d < HEX }
+    ensures { result ≡ digit_char d }
+{
+    if d < TEN { b'0' + d } else { b'a' + (d - TEN) }
 }
 
 // A character as UTF-8. This and the two below have one shape: a trait of what is written, with its bytes and three impls, would be longer

@@ -5,6 +5,8 @@ use mathlib.Core.List.{List, [], ◌∷◌, append-nil}
 use Prim.Native.Nat.{ℕ, ◌+◌, ◌/◌, ◌%◌}
 use native.Mathlib.Omega.{arith}
 use borrow.Author.Tests.{eq-eqb, ne_eqb, eqb-false}
+use Rattle.std.specs.Char.{digit_char}
+use Rattle.std.proofs.lemmas.Bool.Decides.{nat_tests}
 use Rattle.characters.specs.Choice.{◌is◌}
 use Rattle.rules.specs.Text.{Char, ch, text, LF}
 use Rattle.output.specs.Writing.{Put}
@@ -71,6 +73,11 @@ module _ (q c : Char) where
 
   pub bare_put : (a b : List ℕ) (at r : ℕ) → self ≡ false → (c ≡ LF → ⊥) → dollar ≡ false → Put a b at (c ∷ []) r → Put a b at (escaped q c) r
   bare_put a b at r e f g x = put_same a b at r (escaped q c) (c ∷ []) (escaped_none e f g) x
+
+-- The library's digits are those of the print.
+pub digit_printed : (d : ℕ) → digit_char d ≡ hex_digit d
+unfolding hex_digit
+digit_printed d = grind (arith, nat_tests)
 
 pub unicode_put : (c x y : ℕ) (a b d e : List ℕ) (at m n r : ℕ) → x ≡ hex_digit (c / 16) → y ≡ hex_digit (c % 16)
     → Put a b at (text "\\u00") m → Put b d m (x ∷ []) n → Put d e n (y ∷ []) r → Put a e at (unicode c) r

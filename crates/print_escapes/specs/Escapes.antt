@@ -10,10 +10,6 @@ use Rattle.prints.specs.Print.{escapes}
 abbrev pub MOST : ℕ
 MOST = 1099511627776
 
--- How many hexadecimal digits there are.
-abbrev pub HEX : ℕ
-HEX = 16
-
 -- A character between quotes of the sort `q` that is not written as it stands.
 unfoldable pub is_escaped : Char → Char → Bool
 is_escaped q c = c is ch "\\" || c is q || c is LF || (c is ch "$" && q is ch "\"")

@@ -6,18 +6,13 @@ ghost use Rattle.std.proofs.Math.Seq.{slice};
 ghost use Rattle.characters.specs.Utf8.{encode_char};
 ghost use Rattle.rules.specs.Script.{LIMIT};
 ghost use Rattle.output.specs.Writing.{Put};
-ghost use Rattle.prints.specs.Print.{hex_digit, unicode, escaped, escapes, is_word, literal};
-ghost use Rattle.print_escapes.specs.Escapes.{MOST, HEX, is_escaped, PastBare};
+ghost use Rattle.prints.specs.Print.{unicode, escaped, escapes, is_word, literal};
+ghost use Rattle.print_escapes.specs.Escapes.{MOST, is_escaped, PastBare};
 
 // The first character that is more than one byte.
 const BEYOND_ASCII: u32 = 0x80;
 
 const RADIX: u8 = 16;
-
-const LAST_DECIMAL: u8 = 9;
-
-// What is added to a digit's value from 10 on: `a` is 10.
-const LOWER_BASE: u8 = b'a' - 10;
 
 // Whether a byte between quotes of the sort `quote` is escaped.
 fn is_escaped(quote: u8, b: u8) -> bool
@@ -33,25 +28,14 @@ fn is_word(b: u8) -> bool
     b.is_ascii_alphanumeric() | (b == b'_')
 }
 
-// A lower-case hexadecimal digit.
-fn hex_digit(n: u8) -> u8
-    requires { n < HEX }
-    ensures { result ≡ hex_digit n }
-{
-    if n <= LAST_DECIMAL {
-        return n + b'0';
-    }
-    n + LOWER_BASE
-}
-
 // A byte by its number: `\u` and four digits.
 fn put_unicode(b: u8, out: &mut [u8], at: usize) -> usize
     requires { at ≤ MOST }
     ensures { Put out.old out.new at (unicode b) result }
 {
     let front = output::put_bytes(b"\\u00", out, at);
-    let high = output::put_byte(out, front, hex_digit(b / RADIX));
-    output::put_byte(out, high, hex_digit(b % RADIX))
+    let high = output::put_byte(out, front, output::hex_digit(b / RADIX));
+    output::put_byte(out, high, output::hex_digit(b % RADIX))
 }
 
 // A byte between quotes.

@@ -23,7 +23,7 @@ fn put_quoted(text: &[u8], from: usize, out: &mut [u8], at: usize) -> Result<Wri
     requires at_bound { at ≤ MOST / 4 }
     ensures { places.EmittedAt true text.now from out.old out.new at result }
 {
-    if walks::ahead::three_at(text, from, b'"', b'"', b'"') {
+    if walks::ahead::stands_at(text, from, b"\"\"\"") {
         return print_tokens::put_raw(text, from, out, at);
     }
     print_strings::put_string(text, from, out, at)
@@ -36,7 +36,7 @@ fn put_doc(text: &[u8], from: usize, out: &mut [u8], at: usize) -> Result<Writte
     requires at_bound { at ≤ MOST / 4 }
     ensures { places.EmittedAt false text.now from out.old out.new at result }
 {
-    if walks::ahead::three_at(text, from, b'/', b'/', b'/') {
+    if walks::ahead::stands_at(text, from, b"///") {
         return Ok(print_tokens::put_line_doc(text, from, out, at));
     }
     print_tokens::put_block_doc(text, from, out, at)

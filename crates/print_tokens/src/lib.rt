@@ -18,7 +18,7 @@ ghost use Rattle.print_places.specs.Places as places;
 
 use print_places::{Flawed, Written};
 
-// The bytes of the longest character.
+// The bytes of the longest character: the size of a buffer, which no byte string tells.
 const CHARACTER_BYTES: usize = 4;
 
 // The quotes in front of a raw string's text.

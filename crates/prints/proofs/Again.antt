@@ -3,7 +3,6 @@
 use mathlib.Core.Path.{◌≡◌, refl, ap, sym, ◌∙◌}
 use mathlib.Core.Bool.{Bool, true, false, ◌&&◌, ◌||◌, not, false≢true}
 use mathlib.Core.List.{[], ◌∷◌, ◌++◌, append_assoc}
-use mathlib.Core.Option.{none}
 use borrow.Author.Tests.{not-true}
 use Rattle.characters.specs.Choice.{◌is◌, within}
 use Rattle.characters.proofs.Choice.{if_all}

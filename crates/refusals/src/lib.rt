@@ -30,7 +30,8 @@ pub const REFUSED_MISTAKE: u64 = 11;
 
 pub const REFUSED_PRINT: u64 = 12;
 
-// The question that was answered with no, and its figure.
+// The question that was answered with no, and its figure: a number of 64 bits for every host. Where it is a `usize` it is made one by
+// `as`, here and in the answers of the host, since there is no `From` for it.
 #[derive(Clone, Copy, Debug, PartialEq, Eq)]
 pub enum Refusal {
     // The script is too long: its length.

@@ -18,7 +18,7 @@ use Rattle.rules.specs.Comments.{white_space, not_lf, line_comment, block_commen
 use Rattle.rules.specs.Numbers.{hex_part, binary_part, maybe_suffix, radix, is_digit_or_underscore, whole_part, fraction, exponent, decimal, zero_then, parse_number}
 use Rattle.rules.specs.Names.{parse_identifier_or_keyword}
 use Rattle.rules.specs.Marks.{unexpected, two_marks, mark_with, mark_in, parse_mark}
-use Rattle.rules.specs.Strings.{parse_raw_string, escape, before, string_ran_out, string_broken, string_ended, Turn, stop, on, string_escape, brace_interp, name_interp, is_interp_start, string_dollar, turn, follow, string_from, parse_string_tokens, parse_quote}
+use Rattle.rules.specs.Strings.{parse_raw_string, escape, string_ran_out, string_broken, string_ended, Turn, stop, on, string_escape, brace_interp, name_interp, is_interp_start, string_dollar, turn, follow, string_from, parse_string_tokens, parse_quote}
 use Rattle.rules.specs.Characters.{close_char, char_escape, parse_char}
 use Rattle.rules.specs.Docs.{line_doc, block_doc, parse_slash_or_comment}
 use Rattle.rules.specs.Lexer.{dollar_braces, parse_dollar, segment}

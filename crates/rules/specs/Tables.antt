@@ -1,5 +1,5 @@
 -- The tables of the lexer: kinds, keywords, marks, escapes. A kind is its place in `TokenKind` (token.rs, lines 6 to 158), from 0.
-use Rattle.std.specs.Prelude.{true, false, List, [], ◌∷◌, ℕ, if◌then◌else◌}
+use Rattle.std.specs.Prelude.{List, [], ◌∷◌, ℕ, if◌then◌else◌}
 use Rattle.std.proofs.Math.Option.{Option, none, some}
 use Rattle.characters.specs.Choice.{◌is◌}
 use Rattle.rules.specs.Text.{Char, Text, ch, text, same_text}

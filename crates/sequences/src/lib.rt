@@ -25,7 +25,8 @@ pub fn second_ok(a: u8, b: u8) -> bool
     utf8::is_tail(b)
 }
 
-// The character of two bytes.
+// The character of two bytes. This and the next two ask what the RFC's grammar asks of each width: the second byte has a rule of its
+// own behind the first of three or four, and one function of all widths would ask for the width before each test.
 fn two(a: u8, b: u8) -> Decoded
     requires le_a { 0xC2 ≤ a }
     requires a_bound { a ≤ 0xDF }
@@ -73,7 +74,7 @@ pub fn sequence_of(a: u8, b: u8, c: u8, d: u8) -> Decoded
     ensures { result ≡ sequence a b c d }
 {
     if a <= 0x7F {
-        return Decoded::Code(a as u32, 1);
+        return Decoded::Code(u32::from(a), 1);
     }
     if a < 0xC2 {
         return Decoded::Bad;
@@ -99,7 +100,7 @@ pub fn decode(text: &[u8], at: usize) -> Decoded
     }
     let a = text[at];
     if a <= 0x7F {
-        return Decoded::Code(a as u32, 1);
+        return Decoded::Code(u32::from(a), 1);
     }
     let b = utf8::byte_at(text, at + 1);
     let c = utf8::byte_at(text, at + 2);

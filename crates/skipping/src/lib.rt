@@ -11,12 +11,10 @@ ghost use Rattle.walks.specs.Openings.{opens_line, opens_block};
 ghost use Rattle.skipping.specs.Skips.{SomeWhite, WhiteAt, CommentAt, SkippedAt};
 ghost use Rattle.output.specs.Writing.{PLACES};
 
-use characters::{space, utf8};
+use characters::{LINE_FEED, space, utf8};
 use records::errors::ErrorKind;
 use spans::Position;
 use walks::{Closing, ahead, error, walk};
-
-const LINE_FEED: u32 = b'\n' as u32;
 
 // The column behind a line feed that is skipped, as in the Rust (lexer.rs, lines 350 to 355).
 const SKIPPED_LINE_COLUMN: usize = 2;
@@ -83,7 +81,7 @@ fn skip_some(text: &[u8], p: Position) -> Position
     if 0x80 <= b {
         return skip_wide(text, p);
     }
-    let c = b as u32;
+    let c = u32::from(b);
     if !space::is_white(c) {
         return p;
     }
@@ -113,14 +111,14 @@ fn skip_white(text: &[u8], p: Position) -> Position
 pub fn line_at(text: &[u8], at: usize) -> bool
     ensures { result ≡ opens_line (chars_at text.now at) }
 {
-    ahead::pair_at(text, at, b'/', b'/') && !bridge::is_at(text, at + 2, b'/')
+    ahead::stands_at(text, at, b"//") && !bridge::is_at(text, at + 2, b'/')
 }
 
 // Whether a block comment begins at a place.
 pub fn block_at(text: &[u8], at: usize) -> bool
     ensures { result ≡ opens_block (chars_at text.now at) }
 {
-    ahead::pair_at(text, at, b'/', b'*')
+    ahead::stands_at(text, at, b"/*")
         && (!bridge::is_at(text, at + 2, b'*') || bridge::is_at(text, at + 3, b'/'))
 }
 

@@ -21,7 +21,7 @@ use Rattle.rules.specs.Lexer.{advances}
 use Rattle.rules.specs.Script.{LIMIT}
 use Rattle.cursor.specs.Strings.{unit_of, stands, units_made, units_errors, units_ahead}
 use Rattle.cursor.proofs.Units.{Whole, made_none, errors_none, unit_made, unit_errors_lem, whole_unit, ahead_stops}
-use Rattle.bridge.specs.Bridge.{Within, Reach, PastRun, onward, exactly}
+use Rattle.bridge.specs.Bridge.{value_of, Within, Reach, PastRun, onward, exactly}
 use Rattle.bridge.proofs.Tests.{low_is}
 use Rattle.bridge.proofs.Bytes.{byte_next}
 use Rattle.bridge.proofs.Reaches.{reach_nil, reach_join, one_on, onward_suc}
@@ -32,10 +32,10 @@ use Rattle.records.specs.Layout.{error_bytes}
 use Rattle.records.proofs.Filling.{errors_append}
 use Rattle.string_units.specs.declared.Made.TheVariants as made
 use Rattle.string_units.specs.declared.Unit as code
-use Rattle.escapes.specs.Escapes.{value_of, short_escape}
+use Rattle.escapes.specs.Escapes.{short_escape}
 use Rattle.string_units.specs.Units.{made_bytes, mistakes, UnitAt}
 use Rattle.string_runs.specs.Runs.{Room, run_chars, run_made, run_errors, Units, Wrote, RunAt}
-use Rattle.escapes.proofs.Digits.{value_some}
+use Rattle.bridge.proofs.Values.{value_some}
 use Rattle.escapes.proofs.Letters.{letter_flat, letter_not_u, escape_small}
 use Rattle.string_units.proofs.UnitLaws.{escape_char, stands_escape, some_at}
 use Rattle.string_runs.proofs.RunLaws.{mistakes_few, itself, plain_itself}

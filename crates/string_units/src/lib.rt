@@ -9,12 +9,10 @@ ghost use Rattle.cursor.specs.Strings.{escape_unit};
 ghost use Rattle.bridge.specs.Bridge.{Within, Reach};
 ghost use Rattle.string_units.specs.Units.{backslash, backslash_u, unicode_unit, UnitAt, FoundAt, plain_found};
 
-use characters::utf8;
+use characters::{LINE_FEED, utf8};
 use spans::Position;
 
-// The characters that a string's units are told by.
-pub const LINE_FEED: u32 = b'\n' as u32;
-
+// The characters that a string's units are told by, beside the line feed.
 pub const QUOTE: u32 = b'"' as u32;
 
 pub const BACKSLASH: u32 = b'\\' as u32;
@@ -23,7 +21,8 @@ const DOLLAR: u32 = b'$' as u32;
 
 pub const LETTER_U: u32 = b'u' as u32;
 
-// What a unit makes: nothing, the bytes that it takes, or one character.
+// What a unit makes: nothing, the bytes that it takes, or one character. Each has a meaning of its own, which an Option in a Result would
+// not name.
 #[derive(Clone, Copy)]
 pub enum Made {
     Nothing,
@@ -50,12 +49,11 @@ pub struct Unit {
 fn is_interp_start(b: u8) -> bool
     ensures { result ≡ is_interp_start b }
 {
-    (b == b'{')
-        | ((((b'A' <= b) & (b <= b'Z')) | ((b'a' <= b) & (b <= b'z')) | (b == b'_') | (b == b'$'))
-            & !(b == b'$'))
+    b.is_ascii_alphabetic() | (b == b'_') | (b == b'{')
 }
 
-// Whether a dollar sign before a place opens an interpolation.
+// Whether a dollar sign before a place opens an interpolation. It reads a byte and asks one test, as `hex_at` of escapes does: a function
+// with the test as a parameter would be no more than a call of it.
 pub fn opens_at(text: &[u8], at: usize) -> bool
     ensures { result ≡ next is_interp_start (chars_at text.now at) }
 {

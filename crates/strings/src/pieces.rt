@@ -5,6 +5,7 @@ ghost use Rattle.string_runs.specs.Runs.{Room};
 ghost use Rattle.strings.specs.Pieces.{literal_piece, PieceAt};
 
 use super::Piece;
+use characters::LINE_FEED;
 use cursor::Cursor;
 use interpolations::Given;
 use records::answers::TokenRecord;
@@ -12,7 +13,7 @@ use records::errors::ErrorKind;
 use rules::kinds;
 use spans::Position;
 use string_runs::Run;
-use string_units::{LINE_FEED, QUOTE};
+use string_units::QUOTE;
 use walks::error;
 
 // The literal from `start` to `end` whose text stands in the texts from a place on, up to where the run `r` left off. The flag

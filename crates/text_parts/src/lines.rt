@@ -4,9 +4,8 @@ ghost use Rattle.std.specs.Prelude.{◌≡◌};
 ghost use Rattle.text_parts.specs.Lines.{GoodLine, GoodCursor, at_line, Passed, Begun, BehindLine, NextAt};
 
 use super::Part;
+use characters::LINE_FEED;
 use doc_lines::Line;
-
-const LINE_FEED: u32 = b'\n' as u32;
 
 // Where the walk over the lines stands: a line that has still to be given, if it is not empty, behind the line feeds that wait before
 // it; and the place of the line after it, if there is one.

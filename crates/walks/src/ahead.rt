@@ -1,24 +1,18 @@
 // What stands at a place.
-ghost use Rattle.std.specs.Prelude.{◌≡◌, [], ◌∷◌};
+ghost use Rattle.std.specs.Prelude.{◌≡◌};
 ghost use Rattle.characters.specs.Utf8.{chars_at};
 ghost use Rattle.rules.specs.Scan.{starts_with};
-ghost use Rattle.bridge.specs.Bridge.{Letter};
+ghost use Rattle.bridge.specs.Bridge.{Letters};
 
-// Whether a and then b stands at a place.
-pub fn pair_at(text: &[u8], at: usize, a: u8, b: u8) -> bool
-    requires letter { Letter a }
-    requires letter_2 { Letter b }
-    ensures { result ≡ starts_with (a ∷ b ∷ []) (chars_at text.now at) }
+// Whether these bytes stand at a place.
+pub fn stands_at<const N: usize>(text: &[u8], at: usize, mark: &[u8; N]) -> bool
+    requires { Letters mark.now }
+    ensures { result ≡ starts_with mark.now (chars_at text.now at) }
 {
-    bridge::is_at(text, at, a) && bridge::is_at(text, at + 1, b)
-}
-
-// Whether a, b and then c stands at a place.
-pub fn three_at(text: &[u8], at: usize, a: u8, b: u8, c: u8) -> bool
-    requires letter { Letter a }
-    requires letter_2 { Letter b }
-    requires letter_3 { Letter c }
-    ensures { result ≡ starts_with (a ∷ b ∷ c ∷ []) (chars_at text.now at) }
-{
-    bridge::is_at(text, at, a) && pair_at(text, at + 1, b, c)
+    for i in 0..N {
+        if !bridge::is_at(text, at + i, mark[i]) {
+            return false;
+        }
+    }
+    true
 }

@@ -31,7 +31,7 @@ pub fn to_pair(text: &[u8], p: Position) -> Closing
     requires { Within text.now p }
     ensures { UpToAt star_slash text.now p result }
 {
-    to_mark(text, p, b'*', |at| ahead::pair_at(text, at, b'*', b'/'))
+    to_mark(text, p, b'*', |at| ahead::stands_at(text, at, b"*/"))
 }
 
 // Up to the next three quotes, or the end.
@@ -39,12 +39,7 @@ pub fn to_quotes(text: &[u8], p: Position) -> Closing
     requires { Within text.now p }
     ensures { UpToAt quotes text.now p result }
 {
-    to_mark(
-        text,
-        p,
-        b'"',
-        |at| ahead::three_at(text, at, b'"', b'"', b'"'),
-    )
+    to_mark(text, p, b'"', |at| ahead::stands_at(text, at, b"\"\"\""))
 }
 
 // Up to the next byte of this value, or the end.

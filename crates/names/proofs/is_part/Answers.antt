@@ -10,4 +10,4 @@ returns-then-is_letter c = rw (sym c.is_letter.ensures ∙ c.if-is_letter.true)
 
 pub returns : goal.returns
 unfolding is_ident_part is_digit within
-returns c = rw (sym c.is_letter.ensures ∙ c.if-is_letter.false)
+returns c = rw (sym c.is_letter.ensures ∙ c.if-is_letter.false, c.is_ascii_digit.ensures.value)

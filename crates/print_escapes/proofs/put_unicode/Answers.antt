@@ -1,7 +1,8 @@
 -- `print_escapes::put_unicode` meets its contract. Assumes nothing.
-use Rattle.print_escapes.proofs.Bare.{unicode_put}
+use mathlib.Core.Path.{◌∙◌}
+use Rattle.print_escapes.proofs.Bare.{unicode_put, digit_printed}
 use Rattle.print_escapes.proofs.put_unicode.Goals as goal
 
 pub returns : goal.returns
 returns c =
-    unicode_put _ _ _ _ _ _ _ _ _ _ _ c.hex_digit.ensures c.hex_digit-2.ensures c.put_bytes-front.ensures c.put_byte-high.ensures c.put_byte.ensures
+    unicode_put _ _ _ _ _ _ _ _ _ _ _ (c.hex_digit.ensures ∙ digit_printed _) (c.hex_digit-2.ensures ∙ digit_printed _) c.put_bytes-front.ensures c.put_byte-high.ensures c.put_byte.ensures

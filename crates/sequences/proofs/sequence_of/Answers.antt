@@ -4,7 +4,7 @@ use Rattle.characters.proofs.Sequences.{seq_one, seq_low, seq_two, seq_three, se
 use Rattle.sequences.proofs.sequence_of.Goals as goal
 
 pub returns-then-a-le127 : goal.returns-then-a-le127
-returns-then-a-le127 c = sym (seq_one _ _ _ _ c.if-a-le127.true)
+returns-then-a-le127 c = rw c.from.ensures (sym (seq_one _ _ _ _ c.if-a-le127.true))
 
 pub returns-then-a-lt194 : goal.returns-then-a-lt194
 returns-then-a-lt194 c = sym (seq_low _ _ _ _ c.if-a-le127.false c.if-a-lt194.true)

@@ -4,7 +4,7 @@ use mathlib.Core.List.{[], ◌∷◌}
 use Rattle.cursor.specs.Strings.{StringUnit}
 use Rattle.bridge.specs.Bridge.{NextAt, Reach}
 use Rattle.string_units.specs.Units.{UnitAt}
-use Rattle.escapes.proofs.Digits.{value_some, value_none}
+use Rattle.bridge.proofs.Values.{value_some, value_none}
 use Rattle.string_units.proofs.UnitLaws.{escape_end, two, escape_unicode, escape_char, escape_kept}
 use Rattle.string_units.proofs.escape.Goals as goal
 

@@ -1,5 +1,5 @@
 use mathlib.Core.Path.{sym, ◌∙◌}
-use Rattle.escapes.proofs.Digits.{value_some, value_none}
+use Rattle.bridge.proofs.Values.{value_some, value_none}
 use Rattle.string_units.proofs.UnitLaws.{unicode_bad, unicode_char, unicode_none}
 use Rattle.string_units.proofs.unicode.Goals as goal
 

@@ -10,7 +10,7 @@ pub returns-then-text-at : goal.returns-then-text-at
 returns-then-text-at c = sym (decode_end _ _ c.if-text-at.true)
 
 pub returns-then-a-le127 : goal.returns-then-a-le127
-returns-then-a-le127 c = sym (decode_ascii _ _ c.if-text-at.false c.if-a-le127.true)
+returns-then-a-le127 c = rw c.from.ensures (sym (decode_ascii _ _ c.if-text-at.false c.if-a-le127.true))
 
 pub bounds-text-at-then-a-le223 : goal.bounds-text-at-then-a-le223
 bounds-text-at-then-a-le223 c =
