@@ -36,7 +36,8 @@ fn put_line(line: &[u8], feeds: usize, texts: &mut [u8], at: usize) -> usize
     output::put_bytes(line, texts, place)
 }
 
-// The line feeds that wait after a line, by whether it is empty.
+// The line feeds that wait after a line, by whether it is empty. The flag says what the line was, in the words of the definition; two
+// functions would have each caller ask it.
 #[tactic(auto, unfolding(crate::specs::Texts::feeds_after))]
 pub fn feeds_after(feeds: usize, empty: bool) -> usize
     requires { feeds < LARGEST }
@@ -61,7 +62,8 @@ pub fn trim_text(part: &[u8], texts: &mut [u8], at: usize) -> usize
     output::put_bytes(&part[l.from..l.to], texts, at)
 }
 
-// The text of a block: the part cleaned. The result is the place after it.
+// The text of a block: the part cleaned. The result is the place after it. The lines are no range and no iterator: each says where the next
+// begins.
 pub fn clean_doc(part: &[u8], texts: &mut [u8], at: usize) -> usize
     requires { at + length part.now ≤ PLACES }
     ensures { Written part.now texts.old texts.new at (clean_doc (chars_of part.now)) result }

@@ -45,7 +45,7 @@ fn put_part(part: &[u8], x: Part, out: &mut [u8], at: usize) -> usize
     }
 }
 
-// The parts from a cursor on.
+// The parts from a cursor on. The cursor is a value that a caller may keep and begin with again, as put_block_doc does, so it is no iterator.
 fn put_lines(part: &[u8], c: Cursor, out: &mut [u8], at: usize) -> usize
     requires part_len_bound { length part.now ≤ LIMIT }
     requires good_cursor { GoodCursor part.now c }

@@ -19,7 +19,7 @@ use print_places::{Flawed, Written};
 use text_parts::{Part, units};
 
 // What was written inside a string: the place behind it, the place behind its bytes, and whether a `$name` stands right before what
-// follows.
+// follows. The places count either way, so the flag makes no Option of them.
 #[derive(Clone, Copy)]
 pub struct Row {
     pub at: usize,
@@ -27,7 +27,8 @@ pub struct Row {
     pub named: bool,
 }
 
-// Bytes of a literal: as they stand where `plain` says so, which spares a second look at each.
+// Bytes of a literal: as they stand where `plain` says so, which spares a second look at each. Both flags say what the bytes are and what
+// stands before them, as the walk over the units found it; the bytes written are the same for either value of `plain`.
 fn put_bytes(part: &[u8], plain: bool, named: bool, out: &mut [u8], at: usize) -> usize
     requires part_some { 0 < length part.now }
     requires part_len_bound { length part.now ≤ LIMIT }
@@ -67,7 +68,7 @@ fn is_named(named: bool, part: Part) -> bool
     }
 }
 
-// The units from a place to where none stands.
+// The units from a place to where none stands. Each says where the next begins, so that there is nothing for `for` to count.
 fn put_units(s: &[u8], from: usize, named: bool, out: &mut [u8], at: usize) -> Result<Row, Flawed>
     requires within { Within s.now (placed from) }
     requires at_bound { at ≤ MOST / 2 }
@@ -93,7 +94,7 @@ fn put_units(s: &[u8], from: usize, named: bool, out: &mut [u8], at: usize) -> R
     })
 }
 
-// What parts a `$name` from an interpolation right behind it.
+// What parts a `$name` from an interpolation right behind it. The flag says what was written before, as the definition `parting` has it.
 fn put_parting(named: bool, out: &mut [u8], at: usize) -> usize
     requires { at ≤ PLACES }
     ensures { Put out.old out.new at (parting named) result }
