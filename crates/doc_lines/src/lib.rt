@@ -66,7 +66,8 @@ fn past_ink(part: &[u8], from: usize) -> usize
     runs::past(part, from, is_ink)
 }
 
-// Past the characters from a place on that pass a test.
+// Past the characters from a place on that pass a test. They are of one to four bytes, so no iterator of bytes gives them, and the walk
+// answers a place.
 pub fn past_chars<F: Fn(u32) -> bool>(part: &[u8], from: usize, test: F) -> usize
     requires inside { from ≤ length part.now }
     requires callable { F.IsAlwaysCallable test }
@@ -97,7 +98,8 @@ fn ink_end(at: usize, q: usize, to: usize) -> usize
     if at < q { q } else { to }
 }
 
-// The line from a place on, without white space at its end. `ends` says which characters end a line.
+// The line from a place on, without white space at its end. `ends` says which characters end a line. It goes by characters, and passes at
+// once the bytes that neither end a line nor are white space, so `for` would not go through it.
 pub fn trimmed_line<E: Fn(u32) -> bool>(part: &[u8], from: usize, ends: E) -> Line
     requires inside { from ≤ length part.now }
     requires callable { E.IsAlwaysCallable ends }

@@ -7,8 +7,9 @@ use Prim.Native.Nat.{ℕ, zero, suc, ◌+◌, ◌-◌, ◌≤◌, ◌<◌}
 use native.Mathlib.Nat.{sub-zero}
 use native.Mathlib.Omega.{arith}
 use borrow.Author.Tests.{eqb-true, eqb-false, ne_eqb, eq-eqb}
-use lib.ListN.{length, replicate, length-replicate, length-append}
+use lib.ListN.{length, take, drop, replicate, length-replicate, length-append}
 use lib.Seq.{slice, length-slice}
+use Rattle.std.proofs.lemmas.Slice.{between_is}
 use Rattle.characters.specs.Choice.{◌is◌}
 use Rattle.characters.specs.Utf8.{encode_char, encode, chars_at, chars_of}
 use Rattle.characters.proofs.Choice.{if_all, if_both}
@@ -103,6 +104,22 @@ feeds_most k = if_all (λ (n : ℕ). n ≤ k + 1) (k is 0) (λ _. omega arith) (
 
 -- ── What a line adds ──
 
+module _ (k : ℕ) where
+  pub put_empty : (l b : List ℕ) (at : ℕ) → length l ≡ 0 → Put b b at (line_text k l) at
+  unfolding line_text is_empty
+  put_empty [] b at e = put_none b at
+  put_empty (x ∷ l) b at e = absurd (omega arith)
+
+  pub put_full : (l a b c : List ℕ) (at m r : ℕ) → (length l ≡ 0 → ⊥) → Put a b at (replicate k LF) m → Put b c m l r → Put a c at (line_text k l) r
+  unfolding line_text is_empty
+  put_full [] a b c at m r e p q = absurd (e refl)
+  put_full (x ∷ l) a b c at m r e p q = put_then a b c at m r (replicate k LF) (x ∷ l) p q
+
+-- The line's bytes, as the code lends them.
+pub line_slice : (s : List ℕ) (from to k : ℕ) {old new : List ℕ} {at r : ℕ} → Put old new at (line_text k (take (to - from) (drop from s))) r
+    → Put old new at (line_text k (slice from to s)) r
+line_slice s from to k p = rw (← between_is s from to) p
+
 module _ (s : List ℕ) (from to k : ℕ) (h : from ≤ to) (i : to ≤ length s) where
   line_none : from ≡ to → line_text k (slice from to s) ≡ []
   unfolding line_text
@@ -111,14 +128,6 @@ module _ (s : List ℕ) (from to k : ℕ) (h : from ≤ to) (i : to ≤ length s
   line_some : (from ≡ to → ⊥) → line_text k (slice from to s) ≡ replicate k LF ++ slice from to s
   unfolding line_text
   line_some e = rw (empty_slice s from to h i, ne_eqb from to e)
-
-  pub put_empty : (b : List ℕ) (at : ℕ) → from ≡ to → Put b b at (line_text k (slice from to s)) at
-  put_empty b at e = subst (λ (l : List ℕ). Put b b at l at) (sym (line_none e)) (put_none b at)
-
-  pub put_full : (a b c : List ℕ) (at m r : ℕ) → (from ≡ to → ⊥) → Put a b at (replicate k LF) m → Put b c m (slice from to s) r
-      → Put a c at (line_text k (slice from to s)) r
-  put_full a b c at m r e p q =
-      subst (λ (l : List ℕ). Put a c at l r) (sym (line_some e)) (put_then a b c at m r (replicate k LF) (slice from to s) p q)
 
   -- How much it can be.
   pub line_small : length (line_text k (slice from to s)) ≤ k + (to - from)

@@ -3,7 +3,6 @@
 #![tactic(auto)]
 
 ghost use Rattle.std.specs.Prelude.{◌≡◌, ◌+◌, ◌≤◌, ◌<◌, length, replicate};
-ghost use Rattle.std.proofs.Math.Seq.{slice};
 ghost use Rattle.characters.specs.Utf8.{chars_of};
 ghost use Rattle.rules.specs.Text.{LF};
 ghost use Rattle.rules.specs.Docs.{trim, clean_doc};
@@ -11,7 +10,6 @@ ghost use Rattle.output.specs.Writing.{Put, PLACES};
 ghost use Rattle.docs.specs.Texts.{LARGEST, line_text, feeds_after, Written};
 
 use characters::space;
-use doc_lines::Line;
 
 // So many line feeds.
 fn put_feeds(texts: &mut [u8], at: usize, n: usize) -> usize
@@ -26,21 +24,20 @@ fn put_feeds(texts: &mut [u8], at: usize, n: usize) -> usize
 }
 
 // What a line adds: the line feeds that wait, and the line.
-fn put_line(part: &[u8], l: Line, feeds: usize, texts: &mut [u8], at: usize) -> usize
-    requires from_le_to { l.from ≤ l.to }
-    requires to_in_bounds { l.to ≤ length part.now }
-    requires part_len_bound { length part.now ≤ PLACES }
+fn put_line(line: &[u8], feeds: usize, texts: &mut [u8], at: usize) -> usize
+    requires line_len_bound { length line.now ≤ PLACES }
     requires feeds_bound { at + feeds ≤ PLACES }
-    ensures { Put texts.old texts.new at (line_text feeds (slice l.from l.to part.now)) result }
+    ensures { Put texts.old texts.new at (line_text feeds line.now) result }
 {
-    if l.from == l.to {
+    if line.is_empty() {
         return at;
     }
     let place = put_feeds(texts, at, feeds);
-    output::put_bytes(&part[l.from..l.to], texts, place)
+    output::put_bytes(line, texts, place)
 }
 
-// The line feeds that wait after a line, by whether it is empty.
+// The line feeds that wait after a line, by whether it is empty. The flag says what the line was, in the words of the definition; two
+// functions would have each caller ask it.
 #[tactic(auto, unfolding(crate::specs::Texts::feeds_after))]
 pub fn feeds_after(feeds: usize, empty: bool) -> usize
     requires { feeds < LARGEST }
@@ -65,7 +62,8 @@ pub fn trim_text(part: &[u8], texts: &mut [u8], at: usize) -> usize
     output::put_bytes(&part[l.from..l.to], texts, at)
 }
 
-// The text of a block: the part cleaned. The result is the place after it.
+// The text of a block: the part cleaned. The result is the place after it. The lines are no range and no iterator: each says where the next
+// begins.
 pub fn clean_doc(part: &[u8], texts: &mut [u8], at: usize) -> usize
     requires { at + length part.now ≤ PLACES }
     ensures { Written part.now texts.old texts.new at (clean_doc (chars_of part.now)) result }
@@ -75,7 +73,7 @@ pub fn clean_doc(part: &[u8], texts: &mut [u8], at: usize) -> usize
     let mut end = at;
     loop {
         let l = doc_lines::line_at(part, place);
-        end = put_line(part, l, feeds, texts, end);
+        end = put_line(&part[l.from..l.to], feeds, texts, end);
         let Some(next) = l.next else {
             return end;
         };

@@ -3,7 +3,7 @@ use Rattle.std.specs.Prelude.{◌≡◌, Bool, true, false, List, [], ◌∷◌,
 use Rattle.characters.specs.Choice.{◌is◌}
 use Rattle.characters.specs.Utf8.{chars_at, encode}
 use Rattle.spans.specs.declared.Position.{Position}
-use Rattle.rules.specs.Text.{Char, Text, ch, text}
+use Rattle.rules.specs.Text.{Char, Text, ch}
 use Rattle.rules.specs.Scan.{next}
 use Rattle.rules.specs.Tables.{CharLiteral}
 use Rattle.rules.specs.Strings.{escape}

@@ -103,7 +103,8 @@ pub fn character(
             let next = u.next;
             let makes = u.made;
             let mistake = u.mistake;
-            let made = string_runs::put_made(text, q.offset, next.offset, makes, texts, used_texts);
+            let own = &text[q.offset..next.offset];
+            let made = string_runs::put_made(own, makes, texts, used_texts);
             let noted = string_runs::put_mistake(q, mistake, errors, used_errors);
             close(text, next, made, errors, noted)
         }

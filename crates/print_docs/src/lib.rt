@@ -3,7 +3,6 @@
 #![tactic(auto)]
 
 ghost use Rattle.std.specs.Prelude.{◌≡◌, true, false, [], ◌∷◌, ◌++◌, ◌≤◌, ◌+◌, ◌/◌, length};
-ghost use Rattle.std.proofs.Math.Seq.{slice};
 ghost use Rattle.characters.specs.Utf8.{chars_of, encode};
 ghost use Rattle.rules.specs.Text.{LF, one_of};
 ghost use Rattle.rules.specs.Docs.{trim, clean_doc};
@@ -20,17 +19,15 @@ use characters::space;
 use text_parts::lines::Cursor;
 use text_parts::{Part, lines};
 
-// A doc text of one line, the bytes part[from..to].
-fn put_short(part: &[u8], from: usize, to: usize, out: &mut [u8], at: usize) -> usize
-    requires from_le_to { from ≤ to }
-    requires to_in_bounds { to ≤ length part.now }
-    requires part_len_bound { length part.now ≤ LIMIT }
-    requires part_value { one_of (slice from to part.now) LF ≡ false }
+// A doc text of one line.
+fn put_short(line: &[u8], out: &mut [u8], at: usize) -> usize
+    requires line_len_bound { length line.now ≤ LIMIT }
+    requires line_value { one_of line.now LF ≡ false }
     requires at_bound { at ≤ MOST }
-    ensures { Put out.old out.new at (doc (slice from to part.now) ++ (LF ∷ [])) result }
+    ensures { Put out.old out.new at (doc line.now ++ (LF ∷ [])) result }
 {
     let front = output::put_bytes(b"/// ", out, at);
-    let place = output::put_bytes(&part[from..to], out, front);
+    let place = output::put_bytes(line, out, front);
     output::put_byte(out, place, b'\n')
 }
 
@@ -48,7 +45,7 @@ fn put_part(part: &[u8], x: Part, out: &mut [u8], at: usize) -> usize
     }
 }
 
-// The parts from a cursor on.
+// The parts from a cursor on. The cursor is a value that a caller may keep and begin with again, as put_block_doc does, so it is no iterator.
 fn put_lines(part: &[u8], c: Cursor, out: &mut [u8], at: usize) -> usize
     requires part_len_bound { length part.now ≤ LIMIT }
     requires good_cursor { GoodCursor part.now c }
@@ -88,7 +85,7 @@ pub fn put_line_doc(part: &[u8], out: &mut [u8], at: usize) -> usize
 {
     let start = doc_lines::past_chars(part, 0, space::is_white);
     let l = doc_lines::trimmed_line(part, start, |_| false);
-    put_short(part, l.from, l.to, out, at)
+    put_short(&part[l.from..l.to], out, at)
 }
 
 // The block doc comment.
@@ -99,11 +96,11 @@ pub fn put_block_doc(part: &[u8], out: &mut [u8], at: usize) -> usize
 {
     let c = lines::begin(part);
     let Some((_, behind)) = lines::next(part, c) else {
-        return put_short(part, 0, 0, out, at);
+        return put_short(b"", out, at);
     };
     let second = lines::next(part, behind);
     let Some(_) = second else {
-        return put_short(part, c.from, c.to, out, at);
+        return put_short(&part[c.from..c.to], out, at);
     };
     put_long(part, c, out, at)
 }

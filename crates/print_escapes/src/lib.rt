@@ -64,7 +64,7 @@ fn past_bare(quote: u8, text: &[u8], from: usize) -> usize
     runs::past(text, from, |b| !is_escaped(quote, b))
 }
 
-// A text between quotes.
+// A text between quotes. It goes by runs: what is not escaped is copied at once, and not byte by byte as `for` over the text would.
 pub fn put_escapes(quote: u8, text: &[u8], out: &mut [u8], at: usize) -> usize
     requires text_bound { length text.now ≤ LIMIT }
     requires at_bound { at ≤ MOST + MOST / 2 }
@@ -83,7 +83,8 @@ pub fn put_escapes(quote: u8, text: &[u8], out: &mut [u8], at: usize) -> usize
     }
 }
 
-// A text of a string; `named` says that a `$name` stands right before it.
+// A text of a string; `named` says that a `$name` stands right before it. The flag is what was written before, as in the definition
+// `literal`: only a word character that would lengthen the name is written otherwise.
 pub fn put_literal(text: &[u8], named: bool, out: &mut [u8], at: usize) -> usize
     requires text_some { 0 < length text.now }
     requires text_bound { length text.now ≤ LIMIT }
@@ -98,7 +99,7 @@ pub fn put_literal(text: &[u8], named: bool, out: &mut [u8], at: usize) -> usize
     put_escapes(b'"', text, out, at)
 }
 
-// A character of a string; `named` says that a `$name` stands right before it.
+// A character of a string; `named` says the same of it.
 pub fn put_letter(c: u32, named: bool, out: &mut [u8], at: usize) -> usize
     requires c_bound { c ≤ 0x10FFFF }
     requires at_bound { at ≤ MOST }

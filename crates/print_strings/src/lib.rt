@@ -2,7 +2,6 @@
 #![tactic(auto)]
 
 ghost use Rattle.std.specs.Prelude.{◌≡◌, true, false, ◌≤◌, ◌<◌, ◌/◌, length};
-ghost use Rattle.std.proofs.Math.Seq.{slice};
 ghost use Rattle.characters.specs.Utf8.{chars_at};
 ghost use Rattle.rules.specs.Text.{ch};
 ghost use Rattle.rules.specs.Scan.{next, starts_with};
@@ -20,7 +19,7 @@ use print_places::{Flawed, Written};
 use text_parts::{Part, units};
 
 // What was written inside a string: the place behind it, the place behind its bytes, and whether a `$name` stands right before what
-// follows.
+// follows. The places count either way, so the flag makes no Option of them.
 #[derive(Clone, Copy)]
 pub struct Row {
     pub at: usize,
@@ -28,27 +27,19 @@ pub struct Row {
     pub named: bool,
 }
 
-// The bytes s[from..to] of a literal: as they stand where `plain` says so, which spares a second look at each.
-fn put_bytes(
-    s: &[u8],
-    from: usize,
-    to: usize,
-    plain: bool,
-    named: bool,
-    out: &mut [u8],
-    at: usize,
-) -> usize
-    requires from_lt_to { from < to }
-    requires to_in_bounds { to ≤ length s.now }
-    requires s_len_bound { length s.now ≤ LIMIT }
-    requires s_value { plain ≡ true → literal named (slice from to s.now) ≡ slice from to s.now }
+// Bytes of a literal: as they stand where `plain` says so, which spares a second look at each. Both flags say what the bytes are and what
+// stands before them, as the walk over the units found it; the bytes written are the same for either value of `plain`.
+fn put_bytes(part: &[u8], plain: bool, named: bool, out: &mut [u8], at: usize) -> usize
+    requires part_some { 0 < length part.now }
+    requires part_len_bound { length part.now ≤ LIMIT }
+    requires part_value { plain ≡ true → literal named part.now ≡ part.now }
     requires at_bound { at ≤ MOST }
-    ensures { Put out.old out.new at (literal named (slice from to s.now)) result }
+    ensures { Put out.old out.new at (literal named part.now) result }
 {
     if plain {
-        return output::put_bytes(&s[from..to], out, at);
+        return output::put_bytes(part, out, at);
     }
-    print_escapes::put_literal(&s[from..to], named, out, at)
+    print_escapes::put_literal(part, named, out, at)
 }
 
 // One part of a literal; `named` says that a `$name` stands right before it, `plain` that it is written as it stands.
@@ -60,7 +51,7 @@ fn put_part(s: &[u8], part: Part, plain: bool, named: bool, out: &mut [u8], at: 
     ensures { Put out.old out.new at (emitted_part named s.now part) result }
 {
     match part {
-        Part::Bytes(from, to) => put_bytes(s, from, to, plain, named, out, at),
+        Part::Bytes(from, to) => put_bytes(&s[from..to], plain, named, out, at),
         Part::Char(c) => print_escapes::put_letter(c, named, out, at),
         Part::Nothing => at,
     }
@@ -77,7 +68,7 @@ fn is_named(named: bool, part: Part) -> bool
     }
 }
 
-// The units from a place to where none stands.
+// The units from a place to where none stands. Each says where the next begins, so that there is nothing for `for` to count.
 fn put_units(s: &[u8], from: usize, named: bool, out: &mut [u8], at: usize) -> Result<Row, Flawed>
     requires within { Within s.now (placed from) }
     requires at_bound { at ≤ MOST / 2 }
@@ -103,7 +94,7 @@ fn put_units(s: &[u8], from: usize, named: bool, out: &mut [u8], at: usize) -> R
     })
 }
 
-// What parts a `$name` from an interpolation right behind it.
+// What parts a `$name` from an interpolation right behind it. The flag says what was written before, as the definition `parting` has it.
 fn put_parting(named: bool, out: &mut [u8], at: usize) -> usize
     requires { at ≤ PLACES }
     ensures { Put out.old out.new at (parting named) result }

@@ -2,7 +2,6 @@
 #![tactic(auto)]
 
 ghost use Rattle.std.specs.Prelude.{◌≡◌, true, ◌≤◌, length};
-ghost use Rattle.std.proofs.Math.Seq.{slice};
 ghost use Rattle.bridge.specs.Bridge.{placed, Within};
 ghost use Rattle.words.specs.Words.{Begun};
 ghost use Rattle.output.specs.Writing.{Put, PLACES};
@@ -31,18 +30,16 @@ fn word_end(marks: &Marks, text: &[u8], at: usize, class: u8) -> usize
     at + w.length
 }
 
-// The bytes text[from..to] of a word. Most marks are one byte.
-fn put_text(text: &[u8], from: usize, to: usize, out: &mut [u8], at: usize) -> usize
-    requires from_le_to { from ≤ to }
-    requires to_in_bounds { to ≤ length text.now }
-    requires to_bound { to ≤ PLACES }
+// The bytes of a word. Most marks are one byte.
+fn put_text(word: &[u8], out: &mut [u8], at: usize) -> usize
+    requires word_len_bound { length word.now ≤ PLACES }
     requires at_bound { at ≤ PLACES }
-    ensures { Put out.old out.new at (slice from to text.now) result }
+    ensures { Put out.old out.new at word.now result }
 {
-    if to - from == 1 {
-        return output::put_byte(out, at, text[from]);
+    if word.len() == 1 {
+        return output::put_byte(out, at, word[0]);
     }
-    output::put_bytes(&text[from..to], out, at)
+    output::put_bytes(word, out, at)
 }
 
 // The word at a place.
@@ -62,6 +59,6 @@ pub fn put_word(
     let end = word_end(marks, text, from, class);
     Written {
         at: end,
-        out: put_text(text, from, end, out, at),
+        out: put_text(&text[from..end], out, at),
     }
 }

@@ -4,9 +4,10 @@ use mathlib.Core.Path.{◌≡◌, refl, sym, ◌∙◌, ap, ap₂, subst}
 use mathlib.Core.Bool.{Bool, true, false, true≢false}
 use mathlib.Core.List.{List, [], ◌∷◌, ◌++◌}
 use mathlib.Core.Option.{none, some}
-use Prim.Native.Nat.{ℕ, ◌≤◌}
-use lib.ListN.{length, length-append}
+use Prim.Native.Nat.{ℕ, ◌-◌, ◌≤◌}
+use lib.ListN.{length, take, drop, length-append}
 use native.Mathlib.Omega.{arith}
+use Rattle.std.proofs.lemmas.Slice.{between_is}
 use Rattle.spans.specs.declared.Position.{Position}
 use Rattle.spans.specs.declared.Span.{Span}
 use Rattle.rules.specs.Text.{Char, Text, ch}
@@ -26,7 +27,7 @@ use Rattle.string_units.specs.declared.Made.{Made}
 use Rattle.string_units.specs.declared.Mistake.{Mistake}
 use Rattle.string_units.specs.declared.Mistake.TheVariants as mistake
 use Rattle.records.specs.Layout.{error_record_of, error_bytes}
-use Rattle.string_units.specs.Units.{made_bytes, span_behind, mistakes}
+use Rattle.string_units.specs.Units.{made_of, made_bytes, span_behind, mistakes}
 use Rattle.string_units.proofs.UnitLaws.{no_error, stands_plain}
 
 -- ── Errors as bytes ──
@@ -42,8 +43,13 @@ mistakes_few p (Some (mistake.BadEscape e)) = error_few _
 
 -- ── What one unit writes ──
 
-pub made_put : (old new s : List ℕ) (from to at r : ℕ) (m n : Made) → m ≡ n → Put old new at (made_bytes s from to n) r → Put old new at (made_bytes s from to m) r
-made_put old new s from to at r m n e w = subst (λ (x : Made). Put old new at (made_bytes s from to x) r) (sym e) w
+pub made_put : (old new own : List ℕ) (at r : ℕ) (m n : Made) → m ≡ n → Put old new at (made_of own n) r → Put old new at (made_of own m) r
+made_put old new own at r m n e w = subst (λ (x : Made). Put old new at (made_of own x) r) (sym e) w
+
+-- Its own bytes, as the code lends them.
+pub made_part : (s : List ℕ) (from to : ℕ) (m : Made) {old new : List ℕ} {at r : ℕ} → Put old new at (made_of (take (to - from) (drop from s)) m) r
+    → Put old new at (made_bytes s from to m) r
+made_part s from to m p = rw (← between_is s from to) p
 
 module _ (old new : List ℕ) (at r : ℕ) (p : Position) where
   pub mistake_put : (m n : Option Mistake) → m ≡ n → Put old new at (error_bytes (mistakes p n)) r → Put old new at (error_bytes (mistakes p m)) r

@@ -7,7 +7,7 @@ ghost use Rattle.records.specs.Errors.{error_of};
 ghost use Rattle.bridge.specs.Bridge.{Within, Fits};
 ghost use Rattle.output.specs.Writing.{Put, PLACES};
 ghost use Rattle.records.specs.Layout.{error_record_of, error_bytes};
-ghost use Rattle.string_units.specs.Units.{made_bytes, IsChar, span_behind, mistakes};
+ghost use Rattle.string_units.specs.Units.{made_of, IsChar, span_behind, mistakes};
 ghost use Rattle.string_runs.specs.Runs.{USED, Room, Wrote, RunAt};
 
 use records::answers::ErrorRecord;
@@ -31,25 +31,16 @@ pub struct Run {
     pub errors: usize,
 }
 
-// Writes what a unit from one place to another makes.
-pub fn put_made(
-    text: &[u8],
-    from: usize,
-    to: usize,
-    made: Made,
-    texts: &mut [u8],
-    at: usize,
-) -> usize
-    requires from_le_to { from ≤ to }
-    requires to_in_bounds { to ≤ length text.now }
-    requires to_bound { to ≤ LIMIT }
+// Writes what a unit makes, whose own bytes are `own`.
+pub fn put_made(own: &[u8], made: Made, texts: &mut [u8], at: usize) -> usize
+    requires own_len_bound { length own.now ≤ LIMIT }
     requires char { IsChar made }
     requires at_bound { at ≤ PLACES }
-    ensures { Put texts.old texts.new at (made_bytes text.now from to made) result }
+    ensures { Put texts.old texts.new at (made_of own.now made) result }
 {
     match made {
         Made::Nothing => at,
-        Made::Own => output::put_bytes(&text[from..to], texts, at),
+        Made::Own => output::put_bytes(own, texts, at),
         Made::Char(c) => output::put_char(c, texts, at),
     }
 }
@@ -145,7 +136,7 @@ pub fn run_units(
         let next = u.next;
         let makes = u.made;
         let mistake = u.mistake;
-        made = put_made(text, q.offset, next.offset, makes, texts, part);
+        made = put_made(&text[q.offset..next.offset], makes, texts, part);
         noted = put_mistake(q, mistake, errors, noted);
         at = next;
     }

@@ -30,11 +30,15 @@ unicode_unit cs =
     let x = unicode_escape 1 (hex_code 4 0 cs) in
     record { chars = backslash_u ++ take x.extra cs; made = x.text; faults = x.faults }
 
--- The bytes that a unit from the place `from` to the place `to` makes.
+-- The bytes that a unit makes, whose own bytes are `own`.
+abbrev pub made_of : List ℕ → Made → List ℕ
+made_of own made.Nothing = []
+made_of own made.Own = own
+made_of own (made.Char c) = encode_char c
+
+-- The same, of a unit from the place `from` to the place `to`.
 abbrev pub made_bytes : List ℕ → ℕ → ℕ → Made → List ℕ
-made_bytes s from to made.Nothing = []
-made_bytes s from to made.Own = slice from to s
-made_bytes s from to (made.Char c) = encode_char c
+made_bytes s from to m = made_of (slice from to s) m
 
 -- A character that is made can be encoded.
 abbrev pub IsChar : Made → Type 0

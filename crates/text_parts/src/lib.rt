@@ -4,7 +4,8 @@
 pub mod units; // units.rt: the units of a string
 pub mod lines; // lines.rt: the lines of a block doc comment
 
-// A part of a text: bytes of the slice that the text is read from, one character, or nothing.
+// A part of a text: bytes of the slice that the text is read from, one character, or nothing. A unit that makes nothing is a part too, neither
+// an error nor the end, so an Option of the other two would say less plainly what it is.
 #[derive(Clone, Copy)]
 pub enum Part {
     Bytes(usize, usize),

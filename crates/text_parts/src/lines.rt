@@ -28,7 +28,7 @@ fn at_line(l: Line, feeds: usize) -> Cursor
     }
 }
 
-// Past empty lines, to a line that is not empty or to the last one.
+// Past empty lines, to a line that is not empty or to the last one. The lines are no range and no iterator: each says where the next begins.
 fn past_empty(part: &[u8], c: Cursor) -> Cursor
     requires { GoodLine part.now c }
     ensures { Passed part.now c result }

@@ -6,11 +6,11 @@ ghost use Rattle.text_parts.specs.Units.{part_of, NextAt};
 use super::Part;
 use string_units::Made;
 
-// The bytes of a backslash and its letter.
+// The bytes of a backslash and its letter. The letters differ, so there is no one byte string whose length this would be.
 const ESCAPE_BYTES: usize = 2;
 
 // The next part and the place behind it. `plain` says that each character of the part stands for itself, `bad` that an error was recorded
-// in it.
+// in it. The part counts either way, so neither flag is an Option of it, nor `bad` an error in its place.
 #[derive(Clone, Copy)]
 pub struct Step {
     pub part: Part,
@@ -19,7 +19,7 @@ pub struct Step {
     pub bad: bool,
 }
 
-// The part that a unit from one place to another makes.
+// The part that a unit from one place to another makes. It takes two places since a part holds them: it looks at no byte.
 fn part_of(from: usize, to: usize, made: Made) -> Part
     ensures { result ≡ part_of from to made }
 {

@@ -1,7 +1,8 @@
 use mathlib.Core.Path.{subst}
 use Rattle.bridge.proofs.Reaches.{within_fits}
-use Rattle.output.proofs.Buffers.{put_length}
+use Rattle.output.proofs.Buffers.{put_length, part_bound}
 use Rattle.string_units.specs.Units.{FoundAt}
+use Rattle.string_runs.proofs.RunLaws.{made_part}
 use Rattle.string_runs.proofs.Rows.{sofar_start, sofar_room, sofar_wrote, sofar_unit, sofar_stop}
 use native.Mathlib.Omega.{arith}
 use Rattle.string_runs.proofs.run_units.Goals as goal
@@ -36,7 +37,7 @@ put_made-made-requires c =
     let x = subst (FoundAt c.args.text.now c.put_simple-w.result.at) c.in-Some.is c.unit_at.ensures in
     let v = x.1.reach.within in
     let m = (sofar_room c.args.text.now _ c.put_simple-w.result.at _ _ _ _ _ _ _ _ y).0 in
-    record { from_le_to = omega (arith, x.1.forth); to_in_bounds = v.inside; to_bound = omega (arith, v.inside, v.size); char = x.1.char; at_bound = omega arith }
+    record { own_len_bound = part_bound c.args.text.now _ _ _ (omega (arith, v.size)); char = x.1.char; at_bound = omega arith }
 
 pub put_mistake-noted-requires : goal.put_mistake-noted-requires
 put_mistake-noted-requires c =
@@ -52,4 +53,4 @@ pub loop-u-preserved : goal.loop-u-preserved
 loop-u-preserved c =
     let y = sofar_wrote c.args.text.now _ _ _ _ _ _ _ _ _ _ c.loop-u.invariant _ _ _ c.put_simple-w.ensures in
     let x = subst (FoundAt c.args.text.now c.put_simple-w.result.at) c.in-Some.is c.unit_at.ensures in
-    sofar_unit c.args.text.now _ c.put_simple-w.result.at _ _ _ _ _ _ _ _ y _ x _ _ _ _ c.put_made-made.ensures c.put_mistake-noted.ensures
+    sofar_unit c.args.text.now _ c.put_simple-w.result.at _ _ _ _ _ _ _ _ y _ x _ _ _ _ (made_part c.args.text.now _ _ _ c.put_made-made.ensures) c.put_mistake-noted.ensures
