@@ -92,7 +92,8 @@ Low lo f = (c : ℕ) → f c ≡ true → (lo ≤ c) × (c ≤ 0x7F)
 abbrev pub exactly : ℕ → Char → Bool
 exactly b c = c is b
 
--- A byte that is a character, and is not what stands past the end (0).
+-- A byte that is a character, and is not what stands past the end (0). Callers write the byte out, so that the check sees it: a type would
+-- wrap each.
 abbrev pub Letter : ℕ → Type 0
 Letter b = (1 ≤ b) × (b ≤ 0x7F)
 

@@ -91,7 +91,7 @@ impl Keywords {
         same
     }
 
-    // The kind of a name.
+    // The kind of a name. That it is not empty is asked, here and above: the library has no slice that never is.
     pub fn name_kind(&self, name: &[u8]) -> u8
         requires { 0 < length name.now }
         ensures { result ≡ lookup_keyword name.now }

@@ -4,7 +4,7 @@ use Rattle.std.specs.Prelude.{◌≡◌, List, ℕ, ◌+◌, length}
 use Rattle.std.proofs.lemmas.List.Edits.{sets}
 
 -- The places up to which a write is asked for: far behind the end of every buffer, and so far below 2^64 that a place and the length of
--- what is written there have a sum.
+-- what is written there have a sum. It is asked of each place and is no type: the place behind a write would have to be tested anew.
 abbrev pub PLACES : ℕ
 PLACES = 1152921504606846976
 

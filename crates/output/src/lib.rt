@@ -29,7 +29,7 @@ pub fn put_byte(buf: &mut [u8], at: usize, b: u8) -> usize
     at + 1
 }
 
-// The bytes of a part.
+// The bytes of a part. The library's copy takes `memmove` from the host (docs/HOSTS.md); a loop of its own would be no plainer.
 pub fn put_bytes(part: &[u8], buf: &mut [u8], at: usize) -> usize
     requires part_bound { length part.now ≤ PLACES }
     requires at_bound { at ≤ PLACES }

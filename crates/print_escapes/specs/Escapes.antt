@@ -6,7 +6,7 @@ use Rattle.rules.specs.Text.{Char, ch, LF}
 use Rattle.prints.specs.Print.{escapes}
 
 -- The places up to which a part of a print is asked for: more than a print has, and so far below the places that a write is asked for
--- that what is added still has places.
+-- that what is added still has places. It is asked and is no type, as PLACES.
 abbrev pub MOST : ℕ
 MOST = 1099511627776
 

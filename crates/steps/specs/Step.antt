@@ -56,7 +56,8 @@ and_then t es o r = record { tokens = t ∷ r.tokens; errors = es ++ r.errors; r
 pub record Good (s : List ℕ) (c : Cursor) : Type 0 where
   pub at : bridge.Within s c.at
 
--- The bytes that may be used in a buffer before a step. No script takes so many, and every sum with them fits.
+-- The bytes that may be used in a buffer before a step. No script takes so many, and every sum with them fits. It is asked and is no type,
+-- as PLACES of output.
 abbrev pub BeforeStep : ℕ
 BeforeStep = 4294967296
 

@@ -16,7 +16,7 @@ use Rattle.records.specs.Layout.{error_bytes}
 abbrev pub USED : ℕ
 USED = 1099511627776
 
--- The bytes used so far are few enough that every sum of a script's texts and errors fits.
+-- The bytes used so far are few enough that every sum of a script's texts and errors fits. It is asked and is no type, as PLACES of output.
 pub record Room (ut ue : ℕ) : Type 0 where
   pub texts : ut ≤ USED
   pub errors : ue ≤ USED

@@ -1,4 +1,5 @@
-// The tokens of strings at a position: strings by their pieces, raw strings, character literals, and `${` outside of strings.
+// The tokens of strings at a position: strings by their pieces, raw strings, character literals, and `${` outside of strings. Each function
+// asks what its caller has seen at the position (`starts_with ..`): that is known of this one place, so that a type would say it no plainer.
 #![tactic(auto)]
 
 ghost use Rattle.std.specs.Prelude.{◌≡◌, true, false, ◌≤◌};

@@ -41,7 +41,8 @@ pub record GoodLine (s : List ℕ) (c : Cursor) : Type 0 where
   pub few : c.feeds ≤ c.to
   pub plain : one_of (slice c.from c.to s) LF ≡ false
 
--- It stands at a line that is not empty, or at the last one.
+-- It stands at a line that is not empty, or at the last one. It is asked of part and cursor: a cursor holds places alone, and the part is
+-- lent with each call.
 pub record GoodCursor (s : List ℕ) (c : Cursor) : Type 0 where
   pub line : GoodLine s c
   pub full : (n : ℕ) → c.next ≡ Some n → c.from < c.to

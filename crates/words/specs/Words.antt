@@ -18,7 +18,7 @@ begins_word k cs =
     else if k is SLASH then not (starts_with (text "/") cs || starts_with (text "*") cs)
     else k is LETTER || k is DIGIT || within 1 LAST_MARK k
 
--- A word begins at a place, whose byte is of the class `k`.
+-- A word begins at a place, whose byte is of the class `k`. It is what the caller's tests have told of this one place, so it is asked.
 pub record Begun (s : List ℕ) (at k : ℕ) : Type 0 where
   pub class_is : k ≡ class_of (get_or s at 0)
   pub begins : begins_word k (chars_at s (at + 1)) ≡ true
