@@ -1,8 +1,7 @@
 -- The bridge between the code and the rules. Places of the code are bytes of a text `s`; `chars_at s at` is what the rules see from
 -- a place on.
-use Rattle.std.specs.Prelude.{◌≡◌, Bool, true, ◌&&◌, not, List, [], ◌∷◌, ◌++◌, ℕ, ◌+◌, ◌*◌, ◌≤◌, ◌<◌, leb, length, Option, Some, None}
-use Rattle.std.proofs.Math.Option.{none, some}
-use Rattle.std.proofs.Math.Option as found
+use Rattle.std.specs.Prelude.{◌≡◌, Bool, true, ◌&&◌, not, List, [], ◌∷◌, ◌++◌, ℕ, ◌+◌, ◌*◌, ◌≤◌, ◌<◌, leb, length, Option as Answer, Some, None}
+use Rattle.std.proofs.Math.Option.{Option, none, some}
 use Rattle.std.proofs.Math.Seq.{slice}
 use Rattle.characters.specs.Choice.{◌is◌}
 use Rattle.characters.specs.Utf8.{chars_at, is_valid}
@@ -16,7 +15,7 @@ use Rattle.rules.specs.Lexer.{advances}
 -- ── What was found ──
 
 -- What the rules find or do not find, as the code answers it.
-abbrev pub value_of : found.Option ℕ → Option ℕ
+abbrev pub value_of : Option ℕ → Answer ℕ
 value_of none = None
 value_of (some v) = Some v
 
@@ -50,7 +49,7 @@ pub record Reach (s : List ℕ) (p : Position) (t : Text) (q : Position) : Type 
   pub within : Within s q
 
 -- What stands at a position: a character that leads on; or no character is left.
-abbrev pub NextAt : List ℕ → Position → Option (ℕ × Position) → Type 0
+abbrev pub NextAt : List ℕ → Position → Answer (ℕ × Position) → Type 0
 NextAt s p (Some (c, q)) = Reach s p (c ∷ []) q × (p.offset < q.offset)
 NextAt s p None = chars_at s p.offset ≡ []
 
