@@ -22,7 +22,6 @@ use Rattle.walks.specs.Segments.{segment_at, errors_at, OneToken}
 use Rattle.walks.proofs.Segments.{one_token_yields}
 use Rattle.steps.specs.Step.{Good}
 use Rattle.steps.specs.Tokens.{outside_at, made_token, part_token, is_ended, Found}
-use Rattle.steps.specs.declared.Within.TheVariants.{Outside}
 use Rattle.output.proofs.Buffers.{put_none}
 use Rattle.walks.proofs.Errors.{put_no}
 use Rattle.records.proofs.KindLaws.{error_part}
