@@ -23,22 +23,12 @@ use Rattle.multiline.proofs.BeginsNothing.{unexpected_segment}
 use Rattle.skipping.proofs.Stops.{kept_white}
 use Rattle.word_tokens.proofs.Others.{other_nothing}
 use Rattle.output.specs.Writing.{Put}
-use Rattle.output.proofs.Buffers.{put_none, put_then}
+use Rattle.output.proofs.Buffers.{put_then}
 use Rattle.prints.specs.Writing.{outside, closing_quote, due_space, write_tokens}
 use Rattle.print_places.specs.Places.{lexed_from, still, still_of, no_errors, right_from, Emits}
 use Rattle.print_places.specs.declared.Written.{Written}
 use Rattle.print_skips.specs.Gaps.{Passed}
 use Rattle.print_loop.specs.Loops.{Nothing, Ended, Goes, Ends}
-
--- ── The space that is due ──
-
-pub space_put : (out out' : List ℕ) (at r : ℕ) (due : Bool) → due ≡ true → Put out out' at (32 ∷ []) r → Put out out' at (due_space due) r
-unfolding due_space
-space_put out out' at r due e p = rw e p
-
-pub space_none : (out : List ℕ) (at : ℕ) (due : Bool) → due ≡ false → Put out out at (due_space due) at
-unfolding due_space
-space_none out at due e = rw e (put_none out at)
 
 -- ── An element ──
 

@@ -13,6 +13,7 @@ use print_places::{Flawed, Written};
 use questions::script::Script;
 
 // The space that is due: one byte or none, as the element before it says. A closure that writes it would be no plainer.
+#[tactic(auto, unfolding(prints::specs::Writing::due_space))]
 fn put_space(due: bool, out: &mut [u8], at: usize) -> usize
     requires { at ≤ PLACES }
     ensures { Put out.old out.new at (due_space due) result }
