@@ -33,14 +33,7 @@ pub fn line_doc_token(
     let to = d.to;
     let end = docs::trim_text(&text[from..to], texts, fill.texts);
     let behind = Fill { texts: end, ..fill };
-    made::made_step(
-        kinds::DOC_COMMENT,
-        p,
-        d.at,
-        fill.texts,
-        behind,
-        false,
-    )
+    made::made_step(kinds::DOC_COMMENT, p, d.at, fill.texts, behind, false)
 }
 
 // The block doc comment at a position. The cleaner gets the part between its marks.
@@ -64,14 +57,7 @@ pub fn block_doc_token(
         texts: end,
         errors: d.errors,
     };
-    made::made_step(
-        kinds::DOC_COMMENT,
-        p,
-        d.at,
-        fill.texts,
-        behind,
-        d.ran_out,
-    )
+    made::made_step(kinds::DOC_COMMENT, p, d.at, fill.texts, behind, d.ran_out)
 }
 
 // The doc comment at a position. This and `quote_token` of string_tokens have one shape, a test and two calls: with all three as

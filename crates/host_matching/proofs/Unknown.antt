@@ -10,7 +10,6 @@ use Rattle.records.specs.Kinds.{is_kind}
 use Rattle.records.specs.Answers.{stopped}
 use Rattle.record_reading.specs.Reading.{consume_at, match_at}
 
-
 pub kind_high : (kind : ℕ) → 125 < kind → is_kind kind ≡ false
 unfolding is_kind
 kind_high kind h = lt-leb kind 125 h

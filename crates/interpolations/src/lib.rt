@@ -84,7 +84,8 @@ pub fn interpolation(
     let found = c.found;
     let part = output::put_bytes(&text[p.offset..q.offset], texts, used_texts);
     let end = put_brace(found, texts, part);
-    let noted = error::put_unclosed(errors, used_errors, found, ErrorKind::UnterminatedInterpolation, q, q);
+    let kind = ErrorKind::UnterminatedInterpolation;
+    let noted = error::put_unclosed(errors, used_errors, found, kind, q, q);
     let token = TokenRecord {
         kind: kinds::STRING_INTERP_START,
         span: error::between(start, q),

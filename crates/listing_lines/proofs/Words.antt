@@ -4,11 +4,9 @@ use mathlib.Core.Path.{◌≡◌, refl}
 use mathlib.Core.Bool.{Bool, true, false, ◌&&◌}
 use mathlib.Core.List.{List, [], ◌∷◌, ◌++◌, append-nil}
 use Prim.Native.Nat.{ℕ, zero, suc, ◌+◌, ◌-◌, ◌≤◌, zero-le}
-use native.Mathlib.Omega.{arith}
 use borrow.Author.Tests.{leb-true}
 use lib.Dec.{leb}
-use lib.ListN.{length, get_or, take, drop, replicate}
-use lib.Seq.{take-append_seam}
+use lib.ListN.{length, get_or}
 use Rattle.characters.proofs.Choice.{and_both}
 use Rattle.records.specs.Errors.{kind_number, kind_code, error_of}
 use Rattle.records.proofs.ErrorLaws.{code_some, code_none}

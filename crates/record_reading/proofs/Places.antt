@@ -1,14 +1,12 @@
 -- Laws of what stands at a place. Assumes nothing.
-use Rattle.std.specs.Prelude.{if◌then◌else◌}
 use mathlib.Core.Path.{◌≡◌, refl}
 use mathlib.Core.Bool.{Bool, true, false, ◌&&◌, false≢true}
 use mathlib.Core.List.{List}
 use Prim.Native.Nat.{ℕ, ◌+◌, ◌-◌, ◌≤◌, ◌<◌}
 use lib.Dec.{leb}
 use lib.ListN.{length}
-use borrow.Author.Tests.{le-leb, lt-leb, leb-true, leb-false, eq-eqb, ne_eqb}
+use borrow.Author.Tests.{lt-leb, leb-true, leb-false, eq-eqb, ne_eqb}
 use native.Mathlib.Omega.{arith}
-use Rattle.characters.specs.Choice.{within}
 use Rattle.spans.specs.declared.Span.{Span}
 use Rattle.records.specs.Kinds.{is_kind, has_text, record_length, is_error_kind, has_code, error_length}
 use Rattle.records.specs.declared.errors.ErrorKind.{ErrorKind}

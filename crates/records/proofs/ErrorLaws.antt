@@ -1,9 +1,9 @@
 -- Laws of the kinds of errors. Assumes nothing.
 use Rattle.std.specs.Prelude as code
-use Rattle.std.specs.Prelude.{Some, None, if◌then◌else◌}
+use Rattle.std.specs.Prelude.{Some, None}
 use Rattle.std.specs.Option.{unwrap_or}
 use mathlib.Core.Path.{◌≡◌, refl, ap}
-use mathlib.Core.Bool.{Bool, true, false, ◌||◌, false≢true, true≢false}
+use mathlib.Core.Bool.{Bool, true, false, false≢true, true≢false}
 use mathlib.Core.Logic.{⊎_elim}
 use mathlib.Core.Option.{some, none}
 use mathlib.Core.List.{List}

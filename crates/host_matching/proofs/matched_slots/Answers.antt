@@ -1,5 +1,4 @@
 -- `matched_slots` meets its contract.
-use Rattle.host_reading.specs.Records.{record_values, token_values}
 use Rattle.host_matching.specs.Matching.{matched_values}
 use Rattle.host_matching.proofs.matched_slots.Goals as goal
 

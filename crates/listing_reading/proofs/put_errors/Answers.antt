@@ -1,6 +1,6 @@
 -- `put_errors` meets its contract. Assumes nothing.
 use mathlib.Core.Path.{◌≡◌, sym, ◌∙◌, ap}
-use Prim.Native.Nat.{ℕ, ◌+◌, ◌-◌, ◌<◌}
+use Prim.Native.Nat.{◌+◌, ◌-◌}
 use native.Mathlib.Omega.{arith}
 use Rattle.records.specs.Answers.{of_turn}
 use Rattle.listing_reading.proofs.Turns.{errors_start, errors_place, errors_more, errors_end, errors_none, errors_stop}

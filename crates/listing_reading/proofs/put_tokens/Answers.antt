@@ -1,6 +1,6 @@
 -- `put_tokens` meets its contract. Assumes nothing.
 use mathlib.Core.Path.{◌≡◌, sym, ◌∙◌, ap}
-use Prim.Native.Nat.{ℕ, ◌+◌, ◌-◌, ◌<◌}
+use Prim.Native.Nat.{◌+◌, ◌-◌}
 use native.Mathlib.Omega.{arith}
 use Rattle.refusals.specs.Answers.{of_answer}
 use Rattle.records.specs.Answers.{of_turn}
