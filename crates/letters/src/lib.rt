@@ -110,14 +110,8 @@ pub fn character(
             close(text, next, made, errors, noted)
         }
         Err(end) => {
-            let noted = error::put_unclosed(
-                errors,
-                used_errors,
-                false,
-                ErrorKind::UnterminatedCharacter,
-                end,
-                end,
-            );
+            let kind = ErrorKind::UnterminatedCharacter;
+            let noted = error::put_unclosed(errors, used_errors, false, kind, end, end);
             multiline::Made {
                 at: end,
                 texts: used_texts,

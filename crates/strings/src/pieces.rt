@@ -65,26 +65,14 @@ pub fn piece(
     let r = string_runs::run_units(text, p, texts, used_texts, errors, used_errors);
     let stop = r.at;
     let Some((c, q)) = bridge::look(text, stop) else {
-        let noted = error::put_unclosed(
-            errors,
-            r.errors,
-            false,
-            ErrorKind::UnterminatedString,
-            stop,
-            stop,
-        );
+        let kind = ErrorKind::UnterminatedString;
+        let noted = error::put_unclosed(errors, r.errors, false, kind, stop, stop);
         let outside = Cursor::Outside(stop);
         return literal(start, stop, used_texts, r, outside, true, noted);
     };
     if c == LINE_FEED {
-        let noted = error::put_unclosed(
-            errors,
-            r.errors,
-            false,
-            ErrorKind::LineFeedInString,
-            start,
-            stop,
-        );
+        let kind = ErrorKind::LineFeedInString;
+        let noted = error::put_unclosed(errors, r.errors, false, kind, start, stop);
         let next = Cursor::Outside(stop);
         return literal(start, stop, used_texts, r, next, false, noted);
     }
