@@ -65,7 +65,14 @@ fn close(
     ensures { ClosedAt text.now p used_texts errors.old errors.new used_errors result }
 {
     let closed = bridge::is_at(text, p.offset, b'\'');
-    let noted = error::put_unclosed(errors, used_errors, closed, ErrorKind::UnterminatedCharacter, p, p);
+    let noted = error::put_unclosed(
+        errors,
+        used_errors,
+        closed,
+        ErrorKind::UnterminatedCharacter,
+        p,
+        p,
+    );
     if closed {
         return multiline::Made {
             at: bridge::along(p, 1),
