@@ -27,7 +27,7 @@ fn char_at(part: &[u8], at: usize) -> Option<(u32, usize)>
     }
     let b = part[at];
     if b < 0x80 {
-        return Some((b as u32, at + 1));
+        return Some((u32::from(b), at + 1));
     }
     let d = sequences::decode(part, at);
     match d {

@@ -98,7 +98,7 @@ fn ask_kind(kind: u8) -> Result<(), Refusal>
     if kinds::is_kind(kind) {
         Ok(())
     } else {
-        Err(Refusal::Kind(kind as u64))
+        Err(Refusal::Kind(u64::from(kind)))
     }
 }
 

@@ -67,7 +67,7 @@ pub fn next(text: &[u8], from: usize) -> Option<Step>
         return None;
     }
     if let Some(v) = escapes::short_escape(text, from) {
-        let made = v as u32;
+        let made = u32::from(v);
         let behind = from + ESCAPE_BYTES;
         return Some(Step {
             part: Part::Char(made),

@@ -9,7 +9,7 @@ pub returns-then-part-at : goal.returns-then-part-at
 returns-then-part-at c = chars_past_lem _ _ c.if-part-at.true
 
 pub returns-then-b-lt128 : goal.returns-then-b-lt128
-returns-then-b-lt128 c = byte_here _ _ c.if-part-at.false c.if-b-lt128.true
+returns-then-b-lt128 c = rw c.from.ensures (byte_here _ _ c.if-part-at.false c.if-b-lt128.true)
 
 pub overflow_add-result-in-Code : goal.overflow_add-result-in-Code
 overflow_add-result-in-Code c =

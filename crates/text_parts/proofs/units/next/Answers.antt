@@ -19,7 +19,7 @@ overflow_add-behind c =
     omega (arith, c.requires.inside, c.requires.size)
 
 pub returns-in-Some : goal.returns-in-Some
-returns-in-Some c = short_on _ _ _ (sym c.short_escape.ensures ∙ c.in-Some.is)
+returns-in-Some c = rw c.from-made.ensures (short_on _ _ _ (sym c.short_escape.ensures ∙ c.in-Some.is))
 
 pub returns : goal.returns
 returns c = c.unit_step.ensures
