@@ -138,7 +138,8 @@ impl Marks {
         pair
     }
 
-    // The mark at a place, of the class first, which the caller's tests have told to be a mark's: that is asked, and no type says it. Those from the class DELIMITER on stand alone, whatever follows.
+    // The mark at a place, of the class first, which the caller's tests have told to be a mark's: that is asked, and no type says it.
+    // Those from the class DELIMITER on stand alone, whatever follows.
     pub fn mark_at(&self, text: &[u8], at: usize, first: u8) -> Word
         requires first_value { first ≡ class_of (get_or text.now at 0) }
         requires le_first { 1 ≤ first }
