@@ -26,7 +26,7 @@ fn is_cut(text: &[u8]) -> bool
     false
 }
 
-// Whether the second byte has a range of its own behind this first one.
+// Whether the second byte has a range of its own behind this first one. By `matches!` it would take two answers more.
 fn has_own_range(a: u8) -> bool
     ensures { result ≡ has_own_range a }
 {
