@@ -14,7 +14,7 @@ use Rattle.spans.specs.declared.Position.{Position}
 use Rattle.rules.specs.Text.{Text, text}
 use Rattle.rules.specs.Tokens.{Token}
 use Rattle.rules.specs.Tables.{DoubleColonT}
-use Rattle.rules.specs.Segment.{Segment, token}
+use Rattle.rules.specs.Segment.{Segment}
 use Rattle.rules.specs.Lexer.{advances, span, tokens_of, errors_of}
 use Rattle.rules.specs.Bounds.{Every}
 use Rattle.rules.proofs.Fits.{encode_ascii}
