@@ -15,7 +15,7 @@ use Rattle.characters.specs.Utf8.{width, bytes}
 use Rattle.characters.proofs.Texts.{bytes_append}
 use Rattle.characters.proofs.Choice.{if_all}
 use Rattle.spans.specs.declared.Position.{Position}
-use Rattle.rules.specs.Text.{Char, Text, ch, text, LF}
+use Rattle.rules.specs.Text.{Char, Text, ch, LF}
 use Rattle.rules.specs.Scan.{next}
 use Rattle.rules.specs.Tokens.{TokenizeError}
 use Rattle.rules.specs.Tables.{ESCAPES, lookup}

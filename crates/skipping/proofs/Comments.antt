@@ -11,7 +11,6 @@ use Rattle.characters.proofs.Choice.{and_both}
 use Rattle.spans.specs.declared.Position.{Position}
 use Rattle.rules.specs.Text.{Text, text}
 use Rattle.rules.specs.Scan.{starts_with, Upto, up_to}
-use Rattle.rules.specs.Tables.{UnterminatedBlockComment}
 use Rattle.rules.specs.Segment.{Segment}
 use Rattle.rules.specs.Comments.{line_comment, block_comment}
 use Rattle.rules.specs.Lexer.{errors_of}

@@ -18,7 +18,6 @@ use Rattle.characters.proofs.Spaces.{white_alone}
 use Rattle.spans.specs.declared.Position.{Position}
 use Rattle.rules.specs.Text.{Char, Text, LF}
 use Rattle.rules.specs.Scan.{next, Part, run, takes, nothing}
-use Rattle.rules.specs.Tables.{UnterminatedBlockComment}
 use Rattle.rules.specs.Tokens.{Token, TokenizeError}
 use Rattle.rules.specs.Lexer.{advance, advances, skipped_line_column, skip, is_space, tokens_of, Lexed}
 use Rattle.cursor.specs.Cursor.{and_then, left, Yields}

@@ -40,7 +40,7 @@ use Rattle.strings.specs.declared.Piece.{Piece}
 use Rattle.strings.specs.declared.Piece.TheVariants as piece
 use Rattle.string_runs.specs.Runs.{run_chars, run_made, run_errors, RunAt}
 use Rattle.interpolations.specs.Interpolations.{interpolation_at, InterpolationAt}
-use Rattle.strings.specs.Pieces.{literal_piece, token_of, credit, Over, PieceAt}
+use Rattle.strings.specs.Pieces.{literal_piece, token_of, credit, PieceAt}
 use Rattle.string_runs.proofs.RunLaws.{error_few}
 use Rattle.interpolations.proofs.InterpLaws.{interp_first, text_size, interp_few}
 
