@@ -99,7 +99,8 @@ fn ink_end(at: usize, q: usize, to: usize) -> usize
 }
 
 // The line from a place on, without white space at its end. `ends` says which characters end a line. It goes by characters, and passes at
-// once the bytes that neither end a line nor are white space, so `for` would not go through it.
+// once the bytes that neither end a line nor are white space, so `for` would not go through it. What is promised is for an `ends` that the
+// line feed alone passes, or nothing: a line of a block, or the whole part.
 pub fn trimmed_line<E: Fn(u32) -> bool>(part: &[u8], from: usize, ends: E) -> Line
     requires inside { from ≤ length part.now }
     requires callable { E.IsAlwaysCallable ends }

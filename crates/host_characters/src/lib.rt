@@ -36,7 +36,7 @@ pub fn mark_length(text: &[u8]) -> u64
 pub fn is_white(code: u32) -> u64
     ensures { result ≡ truth (is_white code) }
 {
-    if space::is_white(code) { 1 } else { 0 }
+    host_answers::truth_of(space::is_white(code))
 }
 
 // Writes a character at a place of the buffer: the bytes written, or 0 where the code point is no character or does not fit.

@@ -75,7 +75,8 @@ fn matched_slots(matched: (bool, usize)) -> [u64; MATCHED_SLOTS]
     [0, at as u64, truth_of(fits)]
 }
 
-// What matching answers for a kind as wide as the host's numbers: two lines as above, over another question.
+// What matching answers for a kind as wide as the host's numbers. With what consuming answers in one function, the reader's
+// question would be a closure, and neither shorter.
 fn matched(tokens: &[u8], place: usize, kind: u64) -> Result<(bool, usize), Refusal>
     ensures { of_turn place result ≡ match_at tokens.now place kind }
 {

@@ -28,7 +28,6 @@ use Rattle.output.specs.Writing.{Put}
 use Rattle.output.proofs.Buffers.{put_then}
 use Rattle.walks.specs.declared.Closing.{Closing}
 use Rattle.records.specs.Layout.{error_bytes}
-use Rattle.records.specs.declared.errors.ErrorKind.TheVariants as kind
 use Rattle.walks.specs.Errors.{unclosed}
 use Rattle.walks.specs.Walks.{UpToAt, brace, behind_mark}
 use Rattle.walks.proofs.Enclosed.{reach_offset, reach_slice, same_upto, enclosed}
@@ -134,7 +133,7 @@ module _ (s : List ℕ) (p : Position) (w : Within s p) (c : Closing) (x : PastA
       ∙ (encode_append i.chars t
       ∙ rw (reach_slice s p c.at i.chars x.reach w.inside, missing_is c.found i.open_end x.same))
 
-  pub past_errors : interpolation_errors c.at (interpolation_at s p) ≡ unclosed c.found kind.UnterminatedInterpolation c.at c.at
+  pub past_errors : interpolation_errors c.at (interpolation_at s p) ≡ unclosed c.found UnterminatedInterpolation c.at c.at
   unfolding interpolation_errors unclosed
   past_errors = ap (λ (b : Bool). if b then error_at UnterminatedInterpolation c.at c.at ∷ [] else []) x.same ∙ go c.found
     where
@@ -155,7 +154,7 @@ module _ (s : List ℕ) (p : Position) (w : Within s p) (c : Closing) (x : PastA
 
   pub interpolation_at_lem : (start : Position) (texts t texts' : List ℕ) (ut m e : ℕ) (errors errors' : List ℕ) (ue n : ℕ) (z : Span) → z ≡ span start c.at
       → Put texts t ut (slice p.offset c.at.offset s) m → Put t texts' m (missing c.found) e
-      → Put errors errors' ue (error_bytes (unclosed c.found kind.UnterminatedInterpolation c.at c.at)) n
+      → Put errors errors' ue (error_bytes (unclosed c.found UnterminatedInterpolation c.at c.at)) n
       → InterpolationAt s p start texts texts' ut errors errors' ue
       (record {
         token = record { kind = StringInterpStart; span = z; offset = ut; length = e - ut };

@@ -18,7 +18,8 @@ use spans::Position;
 use walks::{Closing, error, walk};
 
 // A token, the next cursor, whether the text ran out in the token, and how many bytes of the two buffers are used then. The token
-// counts either way, so the flag is no Option.
+// counts either way, so the flag is no Option. It is no token of the steps, which was tried and measured: the struct inside an enum's case
+// was copied through memory.
 #[derive(Clone, Copy)]
 pub struct Given {
     pub token: TokenRecord,
@@ -85,7 +86,7 @@ pub fn interpolation(
     let part = output::put_bytes(&text[p.offset..q.offset], texts, used_texts);
     let end = put_brace(found, texts, part);
     let kind = ErrorKind::UnterminatedInterpolation;
-    let noted = error::put_unclosed(errors, used_errors, found, kind, q, q);
+    let noted = error::put_open(errors, used_errors, found, kind, q, q);
     let token = TokenRecord {
         kind: kinds::STRING_INTERP_START,
         span: error::between(start, q),

@@ -24,7 +24,6 @@ use Rattle.bridge.proofs.Reaches.{reach_join, one_on, advance_flat}
 use Rattle.output.specs.Writing.{Put}
 use Rattle.output.proofs.Buffers.{put_none, put_then}
 use Rattle.multiline.specs.declared.Made.{Made}
-use Rattle.records.specs.declared.errors.ErrorKind.TheVariants as kind
 use Rattle.walks.specs.Errors.{unclosed}
 use Rattle.walks.specs.Segments.{segment_at, errors_at, OneToken}
 use Rattle.walks.proofs.Enclosed.{reach_offset}
@@ -74,7 +73,7 @@ module _ (s : List ℕ) (p q : Position) (w : Within s p) (d : next (exactly 39)
   -- The text ran out.
   pub unfinished : (e : Position) (texts : List ℕ) (ut : ℕ) (errors errors' : List ℕ) (ue me : ℕ)
       → (runs_out cs ≡ true) × Reach s q cs e × (chars_at s e.offset ≡ [])
-      → Put errors errors' ue (error_bytes (unclosed false kind.UnterminatedCharacter e e)) me
+      → Put errors errors' ue (error_bytes (unclosed false UnterminatedCharacter e e)) me
       → CharacterAt s p texts texts ut errors errors' ue (record { at = e; texts = ut; errors = me; ran_out = true })
   unfolding unclosed encode
   unfinished e texts ut errors errors' ue me y z =
@@ -82,7 +81,7 @@ module _ (s : List ℕ) (p q : Position) (w : Within s p) (d : next (exactly 39)
       let g = char_token (39 ∷ cs) [] f true in
       let r = reach_join s p q e (39 ∷ []) cs quote_on y.1 in
       let o = reach_offset s p e (39 ∷ cs) r in
-      let l = unclosed_size false kind.UnterminatedCharacter e e in
+      let l = unclosed_size false UnterminatedCharacter e e in
       let h = quote_forth in
       let n = reach_offset s q e cs y.1 in
       character_at cs [] f true e (segment_is ∙ ran_out_parse cs y.0) r texts texts ut ut errors errors' ue me (put_none texts ut)
@@ -117,18 +116,18 @@ module _ (s : List ℕ) (p q : Position) (w : Within s p) (d : next (exactly 39)
     faults_are l g z = letter_errors p q cs g l quote_moved z ∙ y.1.errors
 
     -- The errors of the segment, and those that are written.
-    both_put : (f : Bool) (errors' : List ℕ) (me : ℕ) (es : List TokenizeError) → es ≡ mistakes q u.mistake ++ unclosed f kind.UnterminatedCharacter u.next u.next
-        → Put noted errors' ne (error_bytes (unclosed f kind.UnterminatedCharacter u.next u.next)) me → Put errors errors' ue (error_bytes es) me
+    both_put : (f : Bool) (errors' : List ℕ) (me : ℕ) (es : List TokenizeError) → es ≡ mistakes q u.mistake ++ unclosed f UnterminatedCharacter u.next u.next
+        → Put noted errors' ne (error_bytes (unclosed f UnterminatedCharacter u.next u.next)) me → Put errors errors' ue (error_bytes es) me
     both_put f errors' me es e z =
         let m = mistakes q u.mistake in
-        let v = unclosed f kind.UnterminatedCharacter u.next u.next in
+        let v = unclosed f UnterminatedCharacter u.next u.next in
         rw (e, errors_append m v) (put_then errors noted errors' ue ne me (error_bytes m) (error_bytes v) b z)
 
-    both_few : (f : Bool) (errors' : List ℕ) (me : ℕ) → Put noted errors' ne (error_bytes (unclosed f kind.UnterminatedCharacter u.next u.next)) me → me ≤ ue + 58
-    both_few f errors' me z = omega (arith, z.place, unclosed_size f kind.UnterminatedCharacter u.next u.next, letter_few)
+    both_few : (f : Bool) (errors' : List ℕ) (me : ℕ) → Put noted errors' ne (error_bytes (unclosed f UnterminatedCharacter u.next u.next)) me → me ≤ ue + 58
+    both_few f errors' me z = omega (arith, z.place, unclosed_size f UnterminatedCharacter u.next u.next, letter_few)
 
     module _ (errors' : List ℕ) (me : ℕ) where
-      closes : next (exactly 39) (chars_at s u.next.offset) ≡ true → Put noted errors' ne (error_bytes (unclosed true kind.UnterminatedCharacter u.next u.next)) me
+      closes : next (exactly 39) (chars_at s u.next.offset) ≡ true → Put noted errors' ne (error_bytes (unclosed true UnterminatedCharacter u.next u.next)) me
           → CharacterAt s p texts texts' ut errors errors' ue (record { at = onward u.next 1; texts = mt; errors = me; ran_out = false })
       unfolding unclosed
       closes h z =
@@ -141,7 +140,7 @@ module _ (s : List ℕ) (p q : Position) (w : Within s p) (d : next (exactly 39)
           (both_put true errors' me (errors_of p g (faults_of cs)) (faults_are (text "'") g refl ∙ sym (append-nil (mistakes q u.mistake))) z)
           (omega (arith, letter_small, quote_forth, y.1.forth)) (omega (arith, both_few true errors' me z, quote_forth, y.1.forth))
 
-      misses : next (exactly 39) (chars_at s u.next.offset) ≡ false → Put noted errors' ne (error_bytes (unclosed false kind.UnterminatedCharacter u.next u.next)) me
+      misses : next (exactly 39) (chars_at s u.next.offset) ≡ false → Put noted errors' ne (error_bytes (unclosed false UnterminatedCharacter u.next u.next)) me
           → CharacterAt s p texts texts' ut errors errors' ue (record { at = u.next; texts = mt; errors = me; ran_out = false })
       unfolding unclosed
       misses h z =
@@ -165,7 +164,7 @@ module _ (s : List ℕ) (p q : Position) (w : Within s p) (d : next (exactly 39)
     finished errors' r k = go (next (exactly 39) (chars_at s u.next.offset)) refl k.at k.written
       where
         go : (f : Bool) → next (exactly 39) (chars_at s u.next.offset) ≡ f → r.at ≡ (if f then onward u.next 1 else u.next)
-            → Put noted errors' ne (error_bytes (unclosed f kind.UnterminatedCharacter u.next u.next)) r.errors
+            → Put noted errors' ne (error_bytes (unclosed f UnterminatedCharacter u.next u.next)) r.errors
             → CharacterAt s p texts texts' ut errors errors' ue r
         go true h e z =
             subst (λ (m : Made). CharacterAt s p texts texts' ut errors errors' ue m) (sym (made_is r (onward u.next 1) e k.texts k.ran_out)) (closes errors' r.errors h z)
@@ -175,8 +174,8 @@ module _ (s : List ℕ) (p q : Position) (w : Within s p) (d : next (exactly 39)
 -- ── The closing quote ──
 
 pub closed_at : (s : List ℕ) (p e : Position) (ut : ℕ) (errors errors' : List ℕ) (ue me : ℕ) (f : Bool) → f ≡ next (exactly 39) (chars_at s p.offset)
-    → e ≡ (if f then onward p 1 else p) → Put errors errors' ue (error_bytes (unclosed f kind.UnterminatedCharacter p p)) me
+    → e ≡ (if f then onward p 1 else p) → Put errors errors' ue (error_bytes (unclosed f UnterminatedCharacter p p)) me
     → ClosedAt s p ut errors errors' ue (record { at = e; texts = ut; errors = me; ran_out = false })
 unfolding closed
 closed_at s p e ut errors errors' ue me f h x z =
-    record { at = x ∙ ap (λ (b : Bool). if b then onward p 1 else p) h; texts = refl; written = subst (λ (b : Bool). Put errors errors' ue (error_bytes (unclosed b kind.UnterminatedCharacter p p)) me) h z; ran_out = refl }
+    record { at = x ∙ ap (λ (b : Bool). if b then onward p 1 else p) h; texts = refl; written = subst (λ (b : Bool). Put errors errors' ue (error_bytes (unclosed b UnterminatedCharacter p p)) me) h z; ran_out = refl }

@@ -5,14 +5,13 @@ use Rattle.characters.specs.Utf8.{chars_at, encode}
 use Rattle.spans.specs.declared.Position.{Position}
 use Rattle.rules.specs.Text.{Char, Text, ch}
 use Rattle.rules.specs.Scan.{next}
-use Rattle.rules.specs.Tables.{CharLiteral}
+use Rattle.rules.specs.Tables.{CharLiteral, UnterminatedCharacter}
 use Rattle.rules.specs.Strings.{escape}
 use Rattle.cursor.specs.Strings.{StringUnit, plain_unit}
 use Rattle.bridge.specs.Bridge.{Reach, onward, exactly}
 use Rattle.output.specs.Writing.{Put}
 use Rattle.multiline.specs.declared.Made.{Made}
 use Rattle.records.specs.Layout.{error_bytes}
-use Rattle.records.specs.declared.errors.ErrorKind.TheVariants as kind
 use Rattle.walks.specs.Errors.{unclosed}
 use Rattle.walks.specs.Segments.{segment_at, errors_at, OneToken}
 use Rattle.string_units.specs.Units.{UnitAt}
@@ -51,7 +50,7 @@ closed s p = next (exactly (ch "'")) (chars_at s p.offset)
 pub record ClosedAt (s : List ℕ) (p : Position) (ut : ℕ) (errors errors' : List ℕ) (ue : ℕ) (r : Made) : Type 0 where
   pub at : r.at ≡ (if closed s p then onward p 1 else p)
   pub texts : r.texts ≡ ut
-  pub written : Put errors errors' ue (error_bytes (unclosed (closed s p) kind.UnterminatedCharacter p p)) r.errors
+  pub written : Put errors errors' ue (error_bytes (unclosed (closed s p) UnterminatedCharacter p p)) r.errors
   pub ran_out : r.ran_out ≡ false
 
 -- The character literal at `p`: its text is written from `ut` on, its errors from `ue` on.

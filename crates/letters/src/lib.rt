@@ -66,7 +66,7 @@ fn close(
 {
     let closed = bridge::is_at(text, p.offset, b'\'');
     let kind = ErrorKind::UnterminatedCharacter;
-    let noted = error::put_unclosed(errors, used_errors, closed, kind, p, p);
+    let noted = error::put_open(errors, used_errors, closed, kind, p, p);
     if closed {
         return multiline::Made {
             at: bridge::along(p, 1),
@@ -111,7 +111,7 @@ pub fn character(
         }
         Err(end) => {
             let kind = ErrorKind::UnterminatedCharacter;
-            let noted = error::put_unclosed(errors, used_errors, false, kind, end, end);
+            let noted = error::put_open(errors, used_errors, false, kind, end, end);
             multiline::Made {
                 at: end,
                 texts: used_texts,

@@ -63,7 +63,7 @@ pub fn run(script: Script<'_>, tokens: &mut [u8], texts: &mut [u8], errors: &mut
             tokens: used,
             texts: t.fill.texts,
             errors: t.fill.errors,
-            count: count,
+            count,
             closed: u.closed & !t.ran_out,
         };
         c = next;

@@ -1,7 +1,7 @@
 // The listing of a script of at most 1,024 bytes: its tokens, its errors, and closed or open.
 #![tactic(auto)]
 
-ghost use Rattle.std.specs.Prelude.{◌≡◌, ◌≤◌, length};
+ghost use Rattle.std.specs.Prelude.{◌≡◌, ◌≤◌, length, replicate};
 ghost use Rattle.output.specs.Writing.{Put};
 ghost use Rattle.listing.specs.Listing.{listing, LONGEST};
 
@@ -24,9 +24,10 @@ const TEXTS: usize = 2 * LISTED + 2;
 
 const ERRORS: usize = LONGEST_ERROR * LISTED;
 
-// A buffer of zeros. The contract gives only the length.
+// A buffer of zeros.
 pub fn zeros<const N: usize>() -> [u8; N]
-    ensures { N ≡ length result }
+    ensures size { N ≡ length result }
+    ensures zeros { result ≡ replicate N 0 }
 {
     [0; N]
 }

@@ -3,7 +3,7 @@ use Rattle.std.specs.Prelude.{if◌then◌else◌}
 use mathlib.Core.Path.{◌≡◌, refl, sym, ◌∙◌, ap, subst}
 use mathlib.Core.Bool.{true, not, false≢true}
 use mathlib.Core.List.{List, [], ◌∷◌, ◌++◌}
-use mathlib.Core.Option.{some, none}
+use mathlib.Core.Option.{some}
 use Prim.Native.Nat.{ℕ, ◌+◌, ◌≤◌, ◌<◌}
 use lib.ListN.{length, take, drop}
 use lib.Seq.{slice, length-slice}
@@ -15,7 +15,7 @@ use Rattle.spans.specs.declared.Position.{Position}
 use Rattle.spans.specs.declared.Span.{Span}
 use Rattle.rules.specs.Text.{Char, Text, text}
 use Rattle.rules.specs.Scan.{next, starts_with, run, Upto, up_to, closing}
-use Rattle.rules.specs.Tables.{StringLiteral, StringInterpStart, DocComment, Error, UnexpectedCharacter}
+use Rattle.rules.specs.Tables.{StringLiteral, StringInterpStart, DocComment, Error, UnterminatedRawString, UnterminatedDocComment, UnexpectedCharacter}
 use Rattle.rules.specs.Tokens.{TokenizeError}
 use Rattle.rules.specs.Segment.{piece, Fault, fault, Segment, with_token}
 use Rattle.rules.specs.Comments.{not_lf}
@@ -24,11 +24,10 @@ use Rattle.rules.specs.Strings.{parse_raw_string}
 use Rattle.rules.specs.Marks.{unexpected}
 use Rattle.rules.specs.Lexer.{dollar_braces, segment, advances, span, errors_of}
 use Rattle.bridge.specs.Bridge.{Within, Reach, Flat}
-use Rattle.records.specs.declared.errors.ErrorKind.{ErrorKind}
-use Rattle.records.specs.Errors.{kind_number, kind_char, error_of}
+use Rattle.records.specs.declared.errors.ErrorKind.TheVariants as kind
+use Rattle.records.specs.Errors.{error_of}
 use Rattle.output.specs.Writing.{Put}
 use Rattle.records.specs.Layout.{error_record_of, error_bytes}
-use Rattle.records.specs.declared.errors.ErrorKind.TheVariants as kind
 use Rattle.walks.specs.Errors.{unclosed}
 use Rattle.walks.specs.Walks.{star_slash, quotes, brace, feed, UpToAt, behind_mark}
 use Rattle.walks.specs.Segments.{segment_at, errors_at, OneToken}
@@ -99,11 +98,11 @@ module _ (b : Char) (bs mark : Text) (s : List ℕ) (p q : Position) (c : Closin
       pub from_open : (segment_at s p).open_end ≡ not c.found
       from_open = ap (λ (h : Segment). h.open_end) e ∙ inner_open
 
-    pub from_errors : (k : ℕ) (t : Text) (n : ErrorKind) → kind_char n ≡ none
-        → segment_at s p ≡ token_from (b ∷ bs) mark k t (faults_from (b ∷ bs) mark (kind_number n) inner) inner → errors_at s p ≡ unclosed c.found n p end
-    from_errors k t n m e =
-        let g = token_from (b ∷ bs) mark k t (faults_from (b ∷ bs) mark (kind_number n) inner) inner in
-        ap (λ (h : Segment). errors_of p h h.faults) e ∙ whole_error p end g whole_reach.moved n c.found m inner_open refl
+    pub from_errors : (k : ℕ) (t : Text) (n : ℕ) → segment_at s p ≡ token_from (b ∷ bs) mark k t (faults_from (b ∷ bs) mark n inner) inner
+        → errors_at s p ≡ unclosed c.found n p end
+    from_errors k t n e =
+        let g = token_from (b ∷ bs) mark k t (faults_from (b ∷ bs) mark n inner) inner in
+        ap (λ (h : Segment). errors_of p h h.faults) e ∙ whole_error p end g whole_reach.moved n c.found inner_open refl
 
 -- ── The tokens ──
 
@@ -132,13 +131,13 @@ module _ (s : List ℕ) (p q : Position) (c : Closing) where
   pub raw_at : (end : Position) (texts texts' : List ℕ) (ut nt : ℕ) (errors errors' : List ℕ) (ue ne : ℕ)
       → starts_with quotes (chars_at s p.offset) ≡ true → Reach s p quotes q → UpToAt quotes s q c → end ≡ behind_mark c 3
       → Put texts texts' ut (slice q.offset c.at.offset s) nt
-      → Put errors errors' ue (error_bytes (unclosed c.found kind.UnterminatedRawString p end)) ne
+      → Put errors errors' ue (error_bytes (unclosed c.found UnterminatedRawString p end)) ne
       → RawAt s p texts texts' ut errors errors' ue (record { at = end; texts = nt; errors = ne; ran_out = not c.found })
   unfolding parse_raw_string
   raw_at end texts texts' ut nt errors errors' ue ne e r x f m n =
       let g = raw_segment (chars_at s p.offset) e in
-      let es = subst (λ (d : Position). errors_at s p ≡ unclosed c.found kind.UnterminatedRawString p d) (sym f)
-      (from_errors _ _ quotes s p q c r x (omega arith) _ _ kind.UnterminatedRawString refl g) in
+      let es = subst (λ (d : Position). errors_at s p ≡ unclosed c.found UnterminatedRawString p d) (sym f)
+      (from_errors _ _ quotes s p q c r x (omega arith) _ _ _ g) in
       let z = subst (λ (d : Position). (c.at.offset ≤ d.offset) × (p.offset < d.offset)) (sym f) (from_on _ _ quotes s p q c r x (omega arith)) in
       let y = reach_forth s p q _ _ r in
       record {
@@ -148,7 +147,7 @@ module _ (s : List ℕ) (p q : Position) (c : Closing) where
         written = subst (λ (l : List TokenizeError). Put errors errors' ue (error_bytes l) ne) (sym es) n;
         open_end = from_open _ _ quotes s p q c r x (omega arith) _ _ _ g;
         small = omega (arith, m.place, length-slice q.offset c.at.offset s x.reach.within.inside, z.0, y);
-        few = put_few errors errors' ue ne _ p.offset end.offset n (unclosed_size c.found kind.UnterminatedRawString p end) z.1;
+        few = put_few errors errors' ue ne _ p.offset end.offset n (unclosed_size c.found UnterminatedRawString p end) z.1;
       }
 
   pub braces_at : (end : Position) (texts texts' : List ℕ) (ut nt : ℕ) → starts_with dollar_brace (chars_at s p.offset) ≡ true
@@ -171,15 +170,15 @@ module _ (s : List ℕ) (p q : Position) (c : Closing) where
 
   pub doc_block_at : (end : Position) (errors errors' : List ℕ) (ue ne : ℕ) → opens_doc (chars_at s p.offset) ≡ true
       → Reach s p (text "/**") q → UpToAt star_slash s q c → end ≡ behind_mark c 2
-      → Put errors errors' ue (error_bytes (unclosed c.found kind.UnterminatedDocComment p end)) ne
+      → Put errors errors' ue (error_bytes (unclosed c.found UnterminatedDocComment p end)) ne
       → DocBlockAt s p errors errors' ue
       (record { from = q.offset; to = c.at.offset; at = end; errors = ne; ran_out = not c.found })
   unfolding block_doc
   doc_block_at end errors errors' ue ne e r x f n =
       let g = block_doc_segment (chars_at s p.offset) e in
       let t = inner_chars _ _ star_slash s p q c r x in
-      let es = subst (λ (d : Position). errors_at s p ≡ unclosed c.found kind.UnterminatedDocComment p d) (sym f)
-      (from_errors _ _ star_slash s p q c r x (omega arith) _ _ kind.UnterminatedDocComment refl g) in
+      let es = subst (λ (d : Position). errors_at s p ≡ unclosed c.found UnterminatedDocComment p d) (sym f)
+      (from_errors _ _ star_slash s p q c r x (omega arith) _ _ _ g) in
       let z = subst (λ (d : Position). p.offset < d.offset) (sym f) (from_on _ _ star_slash s p q c r x (omega arith)).1 in
       record {
         begins = reach_three s p q _ r three_block;
@@ -191,7 +190,7 @@ module _ (s : List ℕ) (p q : Position) (c : Closing) where
         open_end = from_open _ _ star_slash s p q c r x (omega arith) _ _ _ g;
         forth = reach_on s q c.at _ x.reach;
         inside = x.reach.within.inside;
-        few = put_few errors errors' ue ne _ p.offset end.offset n (unclosed_size c.found kind.UnterminatedDocComment p end) z;
+        few = put_few errors errors' ue ne _ p.offset end.offset n (unclosed_size c.found UnterminatedDocComment p end) z;
       }
 
   pub doc_line_at : starts_with slashes (chars_at s p.offset) ≡ true → Reach s p slashes q → UpToAt feed s q c

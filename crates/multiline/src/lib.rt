@@ -83,7 +83,7 @@ pub fn raw(
     let from = inner.offset;
     let to = stop.offset;
     let texts_end = output::put_bytes(&text[from..to], texts, used_texts);
-    let errors_end = error::put_unclosed(
+    let errors_end = error::put_open(
         errors,
         used_errors,
         closed,
@@ -145,7 +145,7 @@ pub fn doc_block(text: &[u8], p: Position, errors: &mut [u8], used: usize) -> Do
     let stop = c.at;
     let closed = c.found;
     let at = walk::behind_mark(c, 2);
-    let end = error::put_unclosed(
+    let end = error::put_open(
         errors,
         used,
         closed,
@@ -177,6 +177,6 @@ pub fn unexpected(text: &[u8], p: Position, errors: &mut [u8], used: usize) -> R
     };
     let span = error::between(p, q);
     let kind = ErrorKind::UnexpectedCharacter(c);
-    let end = output::put_error(errors, used, ErrorRecord { kind, span });
+    let end = output::put_error_record(errors, used, ErrorRecord { kind, span });
     Recorded { at: q, errors: end }
 }

@@ -5,13 +5,14 @@ ghost use Rattle.std.specs.Prelude.{◌≡◌, [], ◌∷◌, ◌≤◌, ◌<◌
 ghost use Rattle.std.specs.Char.{digit_char};
 ghost use Rattle.std.proofs.Math.Seq.{slice};
 ghost use Rattle.characters.specs.Utf8.{encode_char};
-ghost use Rattle.records.specs.Records.{token_record};
+ghost use Rattle.records.specs.Records.{token_record, error_record};
 ghost use Rattle.records.specs.Errors.{error_of};
 ghost use Rattle.records.specs.Layout.{error_record_of};
 ghost use Rattle.output.specs.Writing.{Put, PLACES, HEX};
 
 use records::answers::{ErrorRecord, TokenRecord};
 use records::{fields, kinds};
+use spans::Span;
 
 // The first number that is no decimal digit.
 const TEN: u8 = 10;
@@ -88,19 +89,28 @@ pub fn put_token(buf: &mut [u8], at: usize, r: TokenRecord) -> usize
     put_bytes(&bytes[..n], buf, at)
 }
 
-// An error's record.
-pub fn put_error(buf: &mut [u8], at: usize, e: ErrorRecord) -> usize
+// An error's record, by the number of its kind.
+pub fn put_error(buf: &mut [u8], at: usize, kind: u8, span: Span, code: u32) -> usize
     requires { at ≤ PLACES }
-    ensures { Put buf.old buf.new at (error_record_of (error_of e)) result }
+    ensures { Put buf.old buf.new at (error_record kind span code) result }
 {
-    let n = kinds::error_length(e.kind.number());
+    let n = kinds::error_length(kind);
     if at + n <= buf.len() {
-        return record_writing::put_error(buf, at, e);
+        return record_writing::put_error(buf, at, kind, span, code);
     }
     if buf.len() <= at {
         return at + n;
     }
     let mut bytes = [0u8; fields::WITH_CODE];
-    record_writing::put_error(&mut bytes, 0, e);
+    record_writing::put_error(&mut bytes, 0, kind, span, code);
     put_bytes(&bytes[..n], buf, at)
+}
+
+// An error's record, by its kind with its code point.
+pub fn put_error_record(buf: &mut [u8], at: usize, e: ErrorRecord) -> usize
+    requires { at ≤ PLACES }
+    ensures { Put buf.old buf.new at (error_record_of (error_of e)) result }
+{
+    let code = e.kind.code().unwrap_or(0);
+    put_error(buf, at, e.kind.number(), e.span, code)
 }

@@ -14,6 +14,7 @@ use Rattle.characters.proofs.Widths.{width_one}
 use Rattle.spans.specs.declared.Position.{Position}
 use Rattle.rules.specs.Text.{is_digit, is_letter, is_ident_start}
 use Rattle.rules.specs.Scan.{next}
+use Rattle.rules.specs.Tables.{UnterminatedBlockComment}
 use Rattle.rules.specs.Lexer.{advance, skip}
 use Rattle.cursor.specs.Cursor.{left}
 use Rattle.cursor.specs.declared.Cursor.TheVariants.{Outside}
@@ -25,7 +26,6 @@ use Rattle.lexemes.proofs.Lists.{all_below, below}
 use Rattle.classes.specs.Classes.{OTHER, SLASH, SPACE, mark_chars, place_from, class_of}
 use Rattle.classes.proofs.Laws.{class_low}
 use Rattle.walks.specs.Openings.{opens_line, opens_block}
-use Rattle.records.specs.declared.errors.ErrorKind.TheVariants as kind
 use Rattle.walks.specs.Errors.{unclosed}
 use Rattle.walks.specs.declared.Closing.{Closing}
 use Rattle.walks.proofs.Starts.{starts_no}
@@ -119,9 +119,9 @@ module _ (s : List ℕ) (from : ℕ) (c : Closing) (x : PastComment s (placed fr
   pub comment_wrong : c.found ≡ false → right_from s from ≡ false
   unfolding no_errors
   comment_wrong e =
-      wrong_some [] (unclosed false kind.UnterminatedBlockComment (placed from) c.at) true (lexed_from s from) (left (Outside c.at) (chars_at s c.at.offset))
+      wrong_some [] (unclosed false UnterminatedBlockComment (placed from) c.at) true (lexed_from s from) (left (Outside c.at) (chars_at s c.at.offset))
       (skips.comment_yields_by s (placed from) c x false e)
-      (ap no_errors (unclosed_one false kind.UnterminatedBlockComment (placed from) c.at refl))
+      (ap no_errors (unclosed_one false UnterminatedBlockComment (placed from) c.at refl))
 
   pub comment_passed : c.found ≡ true → Passed s from c.at.offset × (from < c.at.offset)
   comment_passed e = (gap_passed s from c.at (skips.comment_gap s (placed from) c x e), x.forth)

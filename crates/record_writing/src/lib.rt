@@ -5,11 +5,9 @@ ghost use Rattle.std.specs.Prelude.{◌≡◌, [], ◌∷◌, ◌+◌, ◌≤◌
 ghost use Rattle.std.proofs.lemmas.List.Edits.{sets};
 ghost use Rattle.records.specs.Fields.{PAIR, SPAN, HEAD};
 ghost use Rattle.records.specs.Kinds.{record_length, error_length};
-ghost use Rattle.records.specs.Records.{le32, pair_bytes, span_bytes, head_bytes, token_record};
-ghost use Rattle.records.specs.Errors.{kind_number, error_of};
-ghost use Rattle.records.specs.Layout.{error_record_of};
+ghost use Rattle.records.specs.Records.{le32, pair_bytes, span_bytes, head_bytes, token_record, error_record};
 
-use records::answers::{ErrorRecord, TokenRecord};
+use records::answers::TokenRecord;
 use records::{fields, kinds};
 use spans::Span;
 
@@ -69,14 +67,15 @@ pub fn put_token(buf: &mut [u8], at: usize, r: TokenRecord) -> usize
 }
 
 // An error's record. The result is the place after it.
-pub fn put_error(buf: &mut [u8], at: usize, e: ErrorRecord) -> usize
-    requires { at + error_length (kind_number e.kind) ≤ length buf.old }
-    ensures { (result ≡ at + error_length (kind_number e.kind)) × (buf.new ≡ sets buf.old at (error_record_of (error_of e))) }
+pub fn put_error(buf: &mut [u8], at: usize, kind: u8, span: Span, code: u32) -> usize
+    requires { at + error_length kind ≤ length buf.old }
+    ensures { (result ≡ at + error_length kind) × (buf.new ≡ sets buf.old at (error_record kind span code)) }
 {
-    put_head(buf, at, e.kind.number(), e.span);
-    let Some(code) = e.kind.code() else {
-        return at + fields::HEAD;
-    };
-    put32(buf, at + fields::CODE_POINT, code as usize);
-    at + fields::WITH_CODE
+    if kinds::has_code(kind) {
+        put_head(buf, at, kind, span);
+        put32(buf, at + fields::CODE_POINT, code as usize);
+        return at + fields::WITH_CODE;
+    }
+    put_head(buf, at, kind, span);
+    at + fields::HEAD
 }

@@ -6,22 +6,16 @@ use mathlib.Core.Path.{◌≡◌, refl, ap}
 use mathlib.Core.Bool.{Bool, true, false, false≢true, true≢false}
 use mathlib.Core.Logic.{⊎_elim}
 use mathlib.Core.Option.{some, none}
-use mathlib.Core.List.{List}
-use Prim.Native.Nat.{ℕ, zero, suc, ◌+◌, ◌≤◌}
-use lib.Seq.{sets}
+use Prim.Native.Nat.{ℕ, zero, suc, ◌≤◌}
 use native.Mathlib.Omega.{arith}
 use borrow.Author.Tests.{eqb-true}
 use Rattle.characters.specs.Choice.{◌is◌}
 use Rattle.characters.proofs.Choice.{or_either, or_neither}
 use Rattle.records.specs.declared.errors.ErrorKind.{ErrorKind}
 use Rattle.records.specs.declared.errors.ErrorKind.TheVariants as kind
-use Rattle.records.specs.declared.answers.ErrorRecord.{ErrorRecord}
-use Rattle.records.specs.Kinds.{has_code, error_length}
-use Rattle.records.specs.Records.{le32, head_bytes}
-use Rattle.records.specs.Layout.{code_of, error_record_of}
-use Rattle.records.specs.Errors.{kind_number, kind_char, kind_code, kind_of, error_of}
-use Rattle.records.proofs.KindLaws.{length_code, length_bare}
-use Rattle.records.proofs.Bytes.{error_code, error_bare}
+use Rattle.records.specs.Kinds.{has_code}
+use Rattle.records.specs.Layout.{code_of}
+use Rattle.records.specs.Errors.{kind_number, kind_char, kind_code, kind_of}
 
 -- ── A kind carries a code point exactly where its number says so ──
 
@@ -114,23 +108,3 @@ of_none n c a b e = char_none (kind_of n c) (rw (of_number n c a b) e)
 pub of_bare : (n c d : ℕ) → has_code n ≡ false → kind_of n c ≡ kind_of n d
 unfolding kind_of has_code
 of_bare n c d e = let f = or_neither (n is 1) (n is 7) e in rw (f.0, f.1)
-
--- ── The record of an error ──
-
-module _ (r : ErrorRecord) where
-  pub length_some : (v : ℕ) → kind_code r.kind ≡ Some v → error_length (kind_number r.kind) ≡ 29
-  length_some v e = length_code (kind_number r.kind) (code_some r.kind v e).0
-
-  pub length_none : kind_code r.kind ≡ None → error_length (kind_number r.kind) ≡ 25
-  length_none e = length_bare (kind_number r.kind) (code_none r.kind e).0
-
-  pub record_some : (b d : List ℕ) (at : ℕ) (c : List ℕ) (v : ℕ) → kind_code r.kind ≡ Some v → c ≡ sets b at (head_bytes (kind_number r.kind) r.span)
-      → d ≡ sets c (at + 25) (le32 v) → d ≡ sets b at (error_record_of (error_of r))
-  unfolding error_record_of code_of
-  record_some b d at c v e p q =
-      let f = code_some r.kind v e in
-      rw f.1 (error_code b d at (kind_number r.kind) r.span c v f.0 p q)
-
-  pub record_none : (b d : List ℕ) (at : ℕ) → kind_code r.kind ≡ None → d ≡ sets b at (head_bytes (kind_number r.kind) r.span) → d ≡ sets b at (error_record_of (error_of r))
-  unfolding error_record_of
-  record_none b d at e p = error_bare b d at (kind_number r.kind) r.span _ (code_none r.kind e).0 p

@@ -11,11 +11,11 @@ use Rattle.characters.proofs.Choice.{and_both}
 use Rattle.spans.specs.declared.Position.{Position}
 use Rattle.rules.specs.Text.{Text, text}
 use Rattle.rules.specs.Scan.{starts_with, Upto, up_to}
+use Rattle.rules.specs.Tables.{UnterminatedBlockComment}
 use Rattle.rules.specs.Segment.{Segment}
 use Rattle.rules.specs.Comments.{line_comment, block_comment}
 use Rattle.rules.specs.Lexer.{errors_of}
 use Rattle.bridge.specs.Bridge.{Reach, onward}
-use Rattle.records.specs.declared.errors.ErrorKind.TheVariants as kind
 use Rattle.walks.specs.Walks.{star_slash, feed, UpToAt, behind_mark}
 use Rattle.walks.specs.Openings.{opens_line, opens_doc, opens_block}
 use Rattle.skipping.specs.Skips.{PastComment}
@@ -50,7 +50,7 @@ module _ (s : List ℕ) (p q : Position) (c : Closing) where
       record {
         sort = ap (λ (h : Segment). h.sort) g;
         tokens = ap (λ (h : Segment). h.pieces) g;
-        errors = ap (λ (h : Segment). errors_of p h h.faults) g ∙ sym (closed_none true kind.UnterminatedBlockComment p c.at refl);
+        errors = ap (λ (h : Segment). errors_of p h h.faults) g ∙ sym (closed_none true UnterminatedBlockComment p c.at refl);
         open_end = ap (λ (h : Segment). h.open_end) g;
         reach = subst (λ (h : Segment). Reach s p h.chars c.at) (sym g) r;
         forth = reach_forth s p c.at _ _ r;
@@ -70,7 +70,7 @@ module _ (s : List ℕ) (p q : Position) (c : Closing) where
         sort = ap (λ (h : Segment). h.sort) g;
         tokens = ap (λ (h : Segment). h.pieces) g;
         errors = ap (λ (h : Segment). errors_of p h h.faults) g
-            ∙ whole_error p (behind_mark c 2) (block_comment u) r.moved kind.UnterminatedBlockComment c.found refl o refl;
+            ∙ whole_error p (behind_mark c 2) (block_comment u) r.moved UnterminatedBlockComment c.found o refl;
         open_end = ap (λ (h : Segment). h.open_end) g ∙ o;
         reach = subst (λ (h : Segment). Reach s p h.chars (behind_mark c 2)) (sym g) r;
         forth = reach_forth s p (behind_mark c 2) _ _ r;

@@ -18,6 +18,7 @@ use Rattle.characters.proofs.Spaces.{white_alone}
 use Rattle.spans.specs.declared.Position.{Position}
 use Rattle.rules.specs.Text.{Char, Text, LF}
 use Rattle.rules.specs.Scan.{next, Part, run, takes, nothing}
+use Rattle.rules.specs.Tables.{UnterminatedBlockComment}
 use Rattle.rules.specs.Tokens.{Token, TokenizeError}
 use Rattle.rules.specs.Lexer.{advance, advances, skipped_line_column, skip, is_space, tokens_of, Lexed}
 use Rattle.cursor.specs.Cursor.{and_then, left, Yields}
@@ -29,7 +30,6 @@ use Rattle.bridge.proofs.Bytes.{next_test}
 use Rattle.bridge.proofs.Reaches.{next_char}
 use Rattle.output.specs.Writing.{Put}
 use Rattle.records.specs.Layout.{error_bytes}
-use Rattle.records.specs.declared.errors.ErrorKind.TheVariants as kind
 use Rattle.walks.specs.Errors.{unclosed}
 use Rattle.walks.specs.Segments.{segment_at, errors_at}
 use Rattle.walks.specs.Openings.{opens_line, opens_block}
@@ -205,7 +205,7 @@ module _ (s : List ℕ) (p : Position) (c : Closing) (x : PastComment s p c) whe
 
   -- The error where the text ran out.
   abbrev open_error : Bool → List TokenizeError
-  open_error closed = unclosed closed kind.UnterminatedBlockComment p c.at
+  open_error closed = unclosed closed UnterminatedBlockComment p c.at
 
   comment_yields : left (Outside p) (chars_at s p.offset) ≡ and_then [] (open_error c.found) (not c.found) rest
   unfolding is_space tokens_of
@@ -224,7 +224,7 @@ module _ (s : List ℕ) (p : Position) (c : Closing) (x : PastComment s p c) whe
       let h = x.forth in
       record {
         yields = comment_yields_by true e
-            ∙ ap (λ (es : List TokenizeError). and_then [] es false rest) (closed_none true kind.UnterminatedBlockComment p c.at refl);
+            ∙ ap (λ (es : List TokenizeError). and_then [] es false rest) (closed_none true UnterminatedBlockComment p c.at refl);
         within = x.reach.within;
         forth = omega arith;
       }
@@ -253,19 +253,19 @@ empty_stops cs e = ap is_skipped e
 
 -- The text ran out in a comment.
 pub skipped_open : (s : List ℕ) (p q : Position) (c : Closing) (old b new : List ℕ) (used r : ℕ) → Gap s p q → PastComment s q c
-    → c.found ≡ false → b ≡ old → Put b new used (error_bytes (unclosed false kind.UnterminatedBlockComment q c.at)) r
+    → c.found ≡ false → b ≡ old → Put b new used (error_bytes (unclosed false UnterminatedBlockComment q c.at)) r
     → SkippedAt s p old new used (record { at = c.at; errors = r; ran_out = true })
 skipped_open s p q c old b new used r g x e f w =
     let n = x.all e in
     let h = x.forth in
     let k = g.forth in
     record {
-      recorded = unclosed false kind.UnterminatedBlockComment q c.at;
+      recorded = unclosed false UnterminatedBlockComment q c.at;
       yields = g.yields ∙ comment_yields_by s q c x false e;
-      written = subst (λ (l : List ℕ). Put l new used (error_bytes (unclosed false kind.UnterminatedBlockComment q c.at)) r) f w;
+      written = subst (λ (l : List ℕ). Put l new used (error_bytes (unclosed false UnterminatedBlockComment q c.at)) r) f w;
       stops = empty_stops (chars_at s c.at.offset) n;
       all = λ _. n;
       within = x.reach.within;
       forth = omega arith;
-      few = omega (arith, w.place, unclosed_size false kind.UnterminatedBlockComment q c.at);
+      few = omega (arith, w.place, unclosed_size false UnterminatedBlockComment q c.at);
     }

@@ -5,6 +5,7 @@ use Rattle.characters.specs.Utf8.{chars_at}
 use Rattle.spans.specs.declared.Position.{Position}
 use Rattle.rules.specs.Text.{Text}
 use Rattle.rules.specs.Scan.{next}
+use Rattle.rules.specs.Tables.{UnterminatedBlockComment}
 use Rattle.rules.specs.Tokens.{TokenizeError}
 use Rattle.rules.specs.Segment.{Sort, space, comment, one_token, string}
 use Rattle.rules.specs.Lexer.{segment}
@@ -15,7 +16,6 @@ use Rattle.output.specs.Writing.{Put}
 use Rattle.records.specs.Layout.{error_bytes}
 use Rattle.walks.specs.Openings.{opens_line, opens_block}
 use Rattle.records.specs.Fields.{LONGEST_ERROR}
-use Rattle.records.specs.declared.errors.ErrorKind.TheVariants as kind
 use Rattle.walks.specs.Errors.{unclosed}
 use Rattle.walks.specs.Segments.{segment_at, errors_at}
 use Rattle.walks.specs.declared.Closing.{Closing}
@@ -50,7 +50,7 @@ pub record WhiteAt (s : List ℕ) (p q : Position) : Type 0 where
 pub record PastComment (s : List ℕ) (p : Position) (c : Closing) : Type 0 where
   pub sort : (segment_at s p).sort ≡ comment
   pub tokens : (segment_at s p).pieces ≡ []
-  pub errors : errors_at s p ≡ unclosed c.found kind.UnterminatedBlockComment p c.at
+  pub errors : errors_at s p ≡ unclosed c.found UnterminatedBlockComment p c.at
   pub open_end : (segment_at s p).open_end ≡ not c.found
   pub reach : Reach s p (segment_at s p).chars c.at
   pub forth : p.offset < c.at.offset

@@ -159,7 +159,7 @@ pub fn skip(text: &[u8], p: Position, errors: &mut [u8], used: usize) -> Skipped
         };
         let end = c.at;
         if !c.found {
-            let place = error::put_unclosed(
+            let place = error::put_open(
                 errors,
                 used,
                 false,

@@ -53,7 +53,7 @@ fn put_behind(p: Position, kind: ErrorKind, errors: &mut [u8], at: usize) -> usi
 {
     let q = bridge::along(p, 1);
     let span = error::between(q, q);
-    output::put_error(errors, at, ErrorRecord { kind, span })
+    output::put_error_record(errors, at, ErrorRecord { kind, span })
 }
 
 // Writes the error of a unit at p.

@@ -29,7 +29,6 @@ use Rattle.output.proofs.Buffers.{put_then}
 use Rattle.records.proofs.KindLaws.{string_made, interp_made}
 use Rattle.records.specs.Layout.{error_bytes}
 use Rattle.records.proofs.Filling.{errors_append}
-use Rattle.records.specs.declared.errors.ErrorKind.TheVariants as kind
 use Rattle.walks.specs.Errors.{unclosed}
 use Rattle.walks.proofs.Errors.{put_no}
 use Rattle.walks.proofs.Enclosed.{reach_offset}
@@ -195,7 +194,7 @@ module _ (s : List ℕ) (p start : Position) (first : Bool) (texts texts' : List
 
   module _ (errors' : List ℕ) (ne : ℕ) where
     -- The end of the text.
-    pub at_end : behind ≡ [] → Put noted errors' r.errors (error_bytes (unclosed false kind.UnterminatedString r.at r.at)) ne
+    pub at_end : behind ≡ [] → Put noted errors' r.errors (error_bytes (unclosed false UnterminatedString r.at r.at)) ne
         → PieceAt s p start first texts texts' ut errors errors' ue (literal_piece start r.at ut r (Outside r.at) true ne)
     unfolding unclosed
     at_end c w =
@@ -206,7 +205,7 @@ module _ (s : List ℕ) (p start : Position) (first : Bool) (texts texts' : List
         (as_run (λ q. F q []) (piece_end (not first) start p cs (run_chars s p) (whole_before [] c)) ∙ ap (λ (l : Text). F r.at l m es) (sym c))
 
     -- A line feed.
-    pub at_feed : (rest : Text) → behind ≡ LF ∷ rest → Put noted errors' r.errors (error_bytes (unclosed false kind.LineFeedInString start r.at)) ne
+    pub at_feed : (rest : Text) → behind ≡ LF ∷ rest → Put noted errors' r.errors (error_bytes (unclosed false LineFeedInString start r.at)) ne
         → PieceAt s p start first texts texts' ut errors errors' ue (literal_piece start r.at ut r (Outside r.at) false ne)
     unfolding unclosed
     at_feed rest c w =

@@ -66,13 +66,13 @@ pub fn piece(
     let stop = r.at;
     let Some((c, q)) = bridge::look(text, stop) else {
         let kind = ErrorKind::UnterminatedString;
-        let noted = error::put_unclosed(errors, r.errors, false, kind, stop, stop);
+        let noted = error::put_open(errors, r.errors, false, kind, stop, stop);
         let outside = Cursor::Outside(stop);
         return literal(start, stop, used_texts, r, outside, true, noted);
     };
     if c == LINE_FEED {
         let kind = ErrorKind::LineFeedInString;
-        let noted = error::put_unclosed(errors, r.errors, false, kind, start, stop);
+        let noted = error::put_open(errors, r.errors, false, kind, start, stop);
         let next = Cursor::Outside(stop);
         return literal(start, stop, used_texts, r, next, false, noted);
     }

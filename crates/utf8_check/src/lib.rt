@@ -49,7 +49,7 @@ fn past_ascii(text: &[u8], from: usize) -> usize
 
 // The check of the sequences from a place on, one by one: it goes on from the place behind `stop` that it reaches, or breaks off with
 // its answer. Behind `stop` there are three bytes. It steps by the widths of sequences, here and in `past_rest`: no iterator of bytes
-// does.
+// does. It differs from `past_rest` in more than the stop: it looks for no end, which `decode` does for each sequence.
 fn past_good(text: &[u8], from: usize, stop: usize) -> ControlFlow<Option<usize>, usize>
     requires from_in_bounds { from ≤ length text.now }
     requires stop_in_bounds { stop + 3 ≤ length text.now }

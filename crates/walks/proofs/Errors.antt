@@ -2,6 +2,7 @@
 use mathlib.Core.Path.{◌≡◌, refl, sym, subst}
 use mathlib.Core.Bool.{Bool, true, false}
 use mathlib.Core.List.{List, [], ◌∷◌, append-nil}
+use mathlib.Core.Option.{none}
 use Prim.Native.Nat.{ℕ, ◌+◌, ◌*◌, ◌-◌, ◌≤◌, ◌<◌}
 use lib.ListN.{length, length-append}
 use native.Mathlib.Omega.{arith}
@@ -9,8 +10,7 @@ use Rattle.spans.specs.declared.Position.{Position}
 use Rattle.spans.specs.declared.Span.{Span}
 use Rattle.rules.specs.Tokens.{TokenizeError}
 use Rattle.rules.specs.Lexer.{span}
-use Rattle.records.specs.declared.errors.ErrorKind.{ErrorKind}
-use Rattle.records.specs.Errors.{error_of}
+use Rattle.records.specs.Records.{error_record}
 use Rattle.output.specs.Writing.{Put}
 use Rattle.records.proofs.Bytes.{length_error}
 use Rattle.output.proofs.Buffers.{put_none}
@@ -35,24 +35,25 @@ put_one old new at r e x = subst (λ (bs : List ℕ). Put old new at bs r) (sym 
 pub put_no : (b : List ℕ) (at : ℕ) → Put b b at (error_bytes []) at
 put_no b at = subst (λ (bs : List ℕ). Put b b at bs at) (sym none_bytes) (put_none b at)
 
-module _ (closed : Bool) (kind : ErrorKind) (p q : Position) where
+module _ (closed : Bool) (kind : ℕ) (p q : Position) where
   pub closed_none : closed ≡ true → unclosed closed kind p q ≡ []
   unfolding unclosed
   closed_none e = rw e
 
-  pub unclosed_one : closed ≡ false → unclosed closed kind p q ≡ error_of (record { kind = kind; span = span p q }) ∷ []
+  pub unclosed_one : closed ≡ false → unclosed closed kind p q ≡ record { kind = kind; span = span p q; char = none } ∷ []
   unfolding unclosed
   unclosed_one e = rw e
 
   pub put_closed : (b : List ℕ) (at : ℕ) → closed ≡ true → Put b b at (error_bytes (unclosed closed kind p q)) at
   put_closed b at e = subst (λ (es : List TokenizeError). Put b b at (error_bytes es) at) (sym (closed_none e)) (put_no b at)
 
-  pub put_unclosed : (old new : List ℕ) (at r : ℕ) (s : Span) → closed ≡ false → s ≡ span p q
-      → Put old new at (error_record_of (error_of (record { kind = kind; span = s }))) r → Put old new at (error_bytes (unclosed closed kind p q)) r
+  pub put_unclosed : (old new : List ℕ) (at r : ℕ) (s : Span) → closed ≡ false → s ≡ span p q → Put old new at (error_record kind s 0) r
+      → Put old new at (error_bytes (unclosed closed kind p q)) r
+  unfolding error_record_of code_of
   put_unclosed old new at r s e f x =
       subst (λ (es : List TokenizeError). Put old new at (error_bytes es) r) (sym (unclosed_one e))
-      (put_one old new at r (error_of (record { kind = kind; span = span p q }))
-      (subst (λ (t : Span). Put old new at (error_record_of (error_of (record { kind = kind; span = t }))) r) f x))
+      (put_one old new at r (record { kind = kind; span = span p q; char = none })
+      (subst (λ (t : Span). Put old new at (error_record kind t 0) r) f x))
 
 -- ── How many bytes ──
 
@@ -65,10 +66,10 @@ unfolding error_bytes
 errors_size_lem [] = omega arith
 errors_size_lem (e ∷ es) = omega (arith, error_size e, errors_size_lem es, length-append (error_record_of e) (error_bytes es))
 
-pub unclosed_size : (closed : Bool) (kind : ErrorKind) (p q : Position) → length (error_bytes (unclosed closed kind p q)) ≤ 29
+pub unclosed_size : (closed : Bool) (kind : ℕ) (p q : Position) → length (error_bytes (unclosed closed kind p q)) ≤ 29
 unfolding unclosed
 unclosed_size true kind p q = omega (arith, errors_size_lem [])
-unclosed_size false kind p q = omega (arith, errors_size_lem (error_of (record { kind = kind; span = span p q }) ∷ []))
+unclosed_size false kind p q = omega (arith, errors_size_lem (record { kind = kind; span = span p q; char = none } ∷ []))
 
 -- One error at most, of what is not empty.
 pub put_few : (old new : List ℕ) (at r : ℕ) (bytes : List ℕ) (m n : ℕ) → Put old new at bytes r → length bytes ≤ 29 → m < n

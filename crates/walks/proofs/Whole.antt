@@ -15,8 +15,6 @@ use Rattle.rules.specs.Text.{Char, Text}
 use Rattle.rules.specs.Segment.{piece, fault, Segment, one_token}
 use Rattle.rules.specs.Lexer.{advances, span, place_in, tokens_of, errors_of}
 use Rattle.bridge.specs.Bridge.{Reach}
-use Rattle.records.specs.declared.errors.ErrorKind.{ErrorKind}
-use Rattle.records.specs.Errors.{kind_number, kind_char}
 use Rattle.walks.specs.Errors.{unclosed}
 use Rattle.walks.specs.Segments.{segment_at, OneToken}
 use Rattle.walks.proofs.Enclosed.{reach_offset}
@@ -31,15 +29,15 @@ module _ (p q : Position) (g : Segment) (m : q ≡ advances p g.chars) where
   whole_place = ap (advances p) (take-length g.chars) ∙ sym m
 
   -- The error of a segment in which the text ran out.
-  pub whole_error : (k : ErrorKind) (found : Bool) → kind_char k ≡ none → g.open_end ≡ not found
-      → g.faults ≡ (if g.open_end then fault (kind_number k) 0 (length g.chars) ∷ [] else []) → errors_of p g g.faults ≡ unclosed found k p q
+  pub whole_error : (k : ℕ) (found : Bool) → g.open_end ≡ not found
+      → g.faults ≡ (if g.open_end then fault k 0 (length g.chars) ∷ [] else []) → errors_of p g g.faults ≡ unclosed found k p q
   unfolding errors_of advances unclosed
-  whole_error k found n o e =
-      ap (errors_of p g) (e ∙ ap (λ (b : Bool). if b then fault (kind_number k) 0 (length g.chars) ∷ [] else []) o) ∙ go found
+  whole_error k found o e =
+      ap (errors_of p g) (e ∙ ap (λ (b : Bool). if b then fault k 0 (length g.chars) ∷ [] else []) o) ∙ go found
     where
-      go : (b : Bool) → errors_of p g (if not b then fault (kind_number k) 0 (length g.chars) ∷ [] else []) ≡ unclosed b k p q
+      go : (b : Bool) → errors_of p g (if not b then fault k 0 (length g.chars) ∷ [] else []) ≡ unclosed b k p q
       go true = refl
-      go false = rw n (ap (λ (r : Position). record { kind = kind_number k; span = span p r; char = none } ∷ []) whole_place)
+      go false = ap (λ (r : Position). record { kind = k; span = span p r; char = none } ∷ []) whole_place
 
 -- The segment `g` at a position is one token.
 module _ (s : List ℕ) (p q : Position) (g : Segment) (k : ℕ) (t : Text) (c : Char) (more : Text)

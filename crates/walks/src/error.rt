@@ -2,10 +2,10 @@
 ghost use Rattle.std.specs.Prelude.{◌≡◌, ◌≤◌};
 ghost use Rattle.rules.specs.Lexer.{span};
 ghost use Rattle.output.specs.Writing.{Put, PLACES};
+ghost use Rattle.records.specs.Errors.{kind_number};
 ghost use Rattle.records.specs.Layout.{error_bytes};
 ghost use Rattle.walks.specs.Errors.{unclosed};
 
-use records::answers::ErrorRecord;
 use records::errors::ErrorKind;
 use spans::{Position, Span};
 
@@ -18,12 +18,13 @@ pub fn between(p: Position, q: Position) -> Span
     Span::merge(first, last)
 }
 
-// The error of this kind where the text ran out at q in what began at p; none where that was closed.
+// The error of the kind of this number where the text ran out at q in what began at p; none where that was closed, as the walk to its end has
+// told.
 pub fn put_unclosed(
     errors: &mut [u8],
     at: usize,
     closed: bool,
-    kind: ErrorKind,
+    kind: u8,
     p: Position,
     q: Position,
 ) -> usize
@@ -34,5 +35,20 @@ pub fn put_unclosed(
         return at;
     }
     let span = between(p, q);
-    output::put_error(errors, at, ErrorRecord { kind, span })
+    output::put_error(errors, at, kind, span, 0)
+}
+
+// The same for a kind by its name. What is not closed carries no code point.
+pub fn put_open(
+    errors: &mut [u8],
+    at: usize,
+    closed: bool,
+    kind: ErrorKind,
+    p: Position,
+    q: Position,
+) -> usize
+    requires { at ≤ PLACES }
+    ensures { Put errors.old errors.new at (error_bytes (unclosed closed (kind_number kind) p q)) result }
+{
+    put_unclosed(errors, at, closed, kind.number(), p, q)
 }

@@ -26,7 +26,7 @@ fn to_mark<F: Fn(usize) -> bool>(text: &[u8], p: Position, first: u8, stands: F)
     }
 }
 
-// Up to the next `*/`, or the end.
+// Up to the next `*/`, or the end. This and the two below are the walk above, each with its mark.
 pub fn to_pair(text: &[u8], p: Position) -> Closing
     requires { Within text.now p }
     ensures { UpToAt star_slash text.now p result }

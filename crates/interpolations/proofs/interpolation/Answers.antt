@@ -23,4 +23,4 @@ put_brace-end-requires c =
 
 pub returns : goal.returns
 returns c =
-    interpolation_at_lem c.args.text.now c.args.p c.requires.within c.past_interpolation-c.result c.past_interpolation-c.ensures c.args.start _ _ _ _ _ _ _ _ _ _ c.between.result c.between.ensures (put_slice c.args.text.now c.args.p.offset c.past_interpolation-c.result.at.offset c.put_bytes-part.ensures) c.put_brace-end.ensures c.put_unclosed-noted.ensures
+    interpolation_at_lem c.args.text.now c.args.p c.requires.within c.past_interpolation-c.result c.past_interpolation-c.ensures c.args.start _ _ _ _ _ _ _ _ _ _ c.between.result c.between.ensures (put_slice c.args.text.now c.args.p.offset c.past_interpolation-c.result.at.offset c.put_bytes-part.ensures) c.put_brace-end.ensures c.put_open-noted.ensures

@@ -40,4 +40,4 @@ returns-in-Ok c =
 pub returns-in-Err : goal.returns-in-Err
 returns-in-Err c =
     let y = subst (LetterAt c.args.text.now c.along-q.result) c.in-Err.is c.letter_at-l.ensures in
-    unfinished c.args.text.now c.args.p c.along-q.result c.requires.within c.requires.offset_value c.along-q.ensures c.in-Err.end _ _ _ _ _ _ y c.put_unclosed-noted.ensures
+    unfinished c.args.text.now c.args.p c.along-q.result c.requires.within c.requires.offset_value c.along-q.ensures c.in-Err.end _ _ _ _ _ _ y c.put_open-noted.ensures

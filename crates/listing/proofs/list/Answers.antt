@@ -12,4 +12,4 @@ pub returns-in-Ok : goal.returns-in-Ok
 returns-in-Ok c = let q = read_listed _ _ _ _ _ _ _ _ c.tokenize-a.ensures c.if-script-gt-LISTED.false _ c.in-Ok.is _ _ _ c.put_answer.ensures in record { put = q.0; upper_bound = q.1 }
 
 pub returns-in-Err : goal.returns-in-Err
-returns-in-Err c = let q = refused_listed _ _ _ _ _ _ _ _ c.tokenize-a.ensures c.if-script-gt-LISTED.false _ _ _ c.in-Err.is c.number.ensures c.figure.ensures c.zeros-tokens.ensures c.zeros-texts.ensures c.zeros-errors.ensures _ _ _ c.put_refused.ensures in record { put = q.0; upper_bound = q.1 }
+returns-in-Err c = let q = refused_listed _ _ _ _ _ _ _ _ c.tokenize-a.ensures c.if-script-gt-LISTED.false _ _ _ c.in-Err.is c.number.ensures c.figure.ensures c.zeros-tokens.ensures.size c.zeros-texts.ensures.size c.zeros-errors.ensures.size _ _ _ c.put_refused.ensures in record { put = q.0; upper_bound = q.1 }

@@ -13,4 +13,4 @@ to_pair-c-requires c =
 pub returns : goal.returns
 returns c =
     let r = begin_reach (text "/**") c.args.text.now c.args.p _ (omega arith) c.requires.within (doc_starts _ c.requires.offset_value) c.along-inner.ensures in
-    doc_block_at c.args.text.now c.args.p _ _ _ _ _ _ _ c.requires.offset_value r c.to_pair-c.ensures c.behind_mark-at.ensures c.put_unclosed-end.ensures
+    doc_block_at c.args.text.now c.args.p _ _ _ _ _ _ _ c.requires.offset_value r c.to_pair-c.ensures c.behind_mark-at.ensures c.put_open-end.ensures

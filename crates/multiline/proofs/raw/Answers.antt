@@ -34,4 +34,4 @@ pub returns : goal.returns
 returns c =
     let r = begin_reach quotes c.args.text.now c.args.p _ (omega arith) c.requires.within c.requires.offset_value c.along-inner.ensures in
     raw_at c.args.text.now c.args.p _ _ _ _ _ _ _ _ _ _ _ c.requires.offset_value r c.to_quotes-c.ensures c.behind_mark-at.ensures
-    (put_slice c.args.text.now c.along-inner.result.offset c.to_quotes-c.result.at.offset c.put_bytes-texts_end.ensures) c.put_unclosed-errors_end.ensures
+    (put_slice c.args.text.now c.along-inner.result.offset c.to_quotes-c.result.at.offset c.put_bytes-texts_end.ensures) c.put_open-errors_end.ensures

@@ -11,4 +11,4 @@ returns-in_default c =
 pub returns : goal.returns
 returns c =
     let x = subst (NextAt c.args.text.now c.args.p) c.in-Some.is c.look.ensures in
-    unexpected_at c.args.text.now c.args.p c.requires.within c.requires.offset_value c.in-Some.c c.in-Some.q x.0 _ _ _ _ _ c.between-span.ensures c.put_error-end.ensures
+    unexpected_at c.args.text.now c.args.p c.requires.within c.requires.offset_value c.in-Some.c c.in-Some.q x.0 _ _ _ _ _ c.between-span.ensures c.put_error_record-end.ensures

@@ -1,22 +1,20 @@
 use mathlib.Core.Path.{sym, ◌∙◌}
+use Rattle.records.proofs.KindLaws.{length_code, length_bare}
+use Rattle.records.proofs.Bytes.{error_code, error_bare}
 use native.Mathlib.Omega.{arith}
-use Rattle.records.proofs.KindLaws.{error_least}
-use Rattle.records.specs.Errors.{kind_number}
-use Rattle.records.proofs.ErrorLaws.{length_some, length_none, record_some, record_none}
 use Rattle.record_writing.proofs.put_error.Goals as goal
 
 pub put_head-requires : goal.put_head-requires
-put_head-requires c = omega (arith, error_least (kind_number c.args.e.kind))
-
-pub returns-in_default : goal.returns-in_default
-returns-in_default c =
-    let e = sym c.code.ensures ∙ c.in_default.is in
-    (omega (arith, length_none c.args.e e), record_none c.args.e _ _ _ e (rw (← c.number.ensures) c.put_head.ensures))
+put_head-requires c = omega (arith, length_code _ (sym c.has_code.ensures ∙ c.if-has_code.true))
 
 pub put32-requires : goal.put32-requires
-put32-requires c = omega (arith, length_some c.args.e _ (sym c.code.ensures ∙ c.in-Some.is), c.put_head.auto.buf)
+put32-requires c = omega (arith, length_code _ (sym c.has_code.ensures ∙ c.if-has_code.true), c.put_head.auto.buf)
+
+pub returns-then-has_code : goal.returns-then-has_code
+returns-then-has_code c = (omega (arith, length_code _ (sym c.has_code.ensures ∙ c.if-has_code.true)), error_code _ _ _ _ _ _ _ (sym c.has_code.ensures ∙ c.if-has_code.true) c.put_head.ensures c.put32.ensures)
+
+pub put_head-requires-2 : goal.put_head-requires-2
+put_head-requires-2 c = omega (arith, length_bare _ (sym c.has_code.ensures ∙ c.if-has_code.false))
 
 pub returns : goal.returns
-returns c =
-    let e = sym c.code.ensures ∙ c.in-Some.is in
-    (omega (arith, length_some c.args.e _ e), record_some c.args.e _ _ _ _ _ e (rw (← c.number.ensures) c.put_head.ensures) c.put32.ensures)
+returns c = (omega (arith, length_bare _ (sym c.has_code.ensures ∙ c.if-has_code.false)), error_bare _ _ _ _ _ _ (sym c.has_code.ensures ∙ c.if-has_code.false) c.put_head-2.ensures)

@@ -27,13 +27,13 @@ returns-in_default c =
 
 pub shape_of-errors-then-not-c : goal.shape_of-errors-then-not-c
 shape_of-errors-then-not-c c =
-    put_length _ _ _ _ _ c.put_unclosed-place.ensures ∙ ap length c.loop-c.invariant.1
+    put_length _ _ _ _ _ c.put_open-place.ensures ∙ ap length c.loop-c.invariant.1
 
 pub returns-then-not-c : goal.returns-then-not-c
 returns-then-not-c c =
     let g = gap_join c.args.text.now c.args.p c.loop-c.at c.skip_white-at.result c.loop-c.invariant.0 (white_is_gap c.args.text.now c.loop-c.at c.skip_white-at.result c.skip_white-at.ensures) in
     let x = subst (CommentAt c.args.text.now c.skip_white-at.result) c.in-Some.is c.comment_at.ensures in
-    skipped_open c.args.text.now c.args.p c.skip_white-at.result c.in-Some.c _ _ _ c.args.used _ g x (not-true _ c.if-not-c.true) c.loop-c.invariant.1 c.put_unclosed-place.ensures
+    skipped_open c.args.text.now c.args.p c.skip_white-at.result c.in-Some.c _ _ _ c.args.used _ g x (not-true _ c.if-not-c.true) c.loop-c.invariant.1 c.put_open-place.ensures
 
 pub loop-c-smaller : goal.loop-c-smaller
 loop-c-smaller c =

@@ -8,24 +8,24 @@ use Rattle.strings.proofs.PieceLaws.{piece_by, at_end, at_feed, at_quote, is_ove
 use native.Mathlib.Omega.{arith}
 use Rattle.strings.proofs.pieces.piece.Goals as goal
 
-pub put_unclosed-noted-requires : goal.put_unclosed-noted-requires
-put_unclosed-noted-requires c =
+pub put_open-noted-requires : goal.put_open-noted-requires
+put_open-noted-requires c =
     omega (arith, c.run_units-r.ensures.noted.place, c.run_units-r.ensures.few, c.run_units-r.ensures.reach.within.inside, c.run_units-r.ensures.reach.within.size, c.requires.room.errors)
 
 pub returns-in_default : goal.returns-in_default
 returns-in_default c =
-    piece_by c.args.text.now c.args.p c.args.start c.args.first c.args.texts.now c.run_units-r.new.texts c.args.used_texts c.args.errors.now c.put_unclosed-noted.new.errors c.args.used_errors _ _ c.literal.ensures
-    (at_end c.args.text.now c.args.p c.args.start c.args.first c.args.texts.now c.run_units-r.new.texts c.args.used_texts c.args.errors.now c.run_units-r.new.errors c.args.used_errors c.run_units-r.result c.run_units-r.ensures c.put_unclosed-noted.new.errors _ (subst (NextAt c.args.text.now c.run_units-r.result.at) c.in_default.is c.look.ensures) c.put_unclosed-noted.ensures)
+    piece_by c.args.text.now c.args.p c.args.start c.args.first c.args.texts.now c.run_units-r.new.texts c.args.used_texts c.args.errors.now c.put_open-noted.new.errors c.args.used_errors _ _ c.literal.ensures
+    (at_end c.args.text.now c.args.p c.args.start c.args.first c.args.texts.now c.run_units-r.new.texts c.args.used_texts c.args.errors.now c.run_units-r.new.errors c.args.used_errors c.run_units-r.result c.run_units-r.ensures c.put_open-noted.new.errors _ (subst (NextAt c.args.text.now c.run_units-r.result.at) c.in_default.is c.look.ensures) c.put_open-noted.ensures)
 
-pub put_unclosed-noted-requires-then-c-eq-LINE_FEED : goal.put_unclosed-noted-requires-then-c-eq-LINE_FEED
-put_unclosed-noted-requires-then-c-eq-LINE_FEED c =
+pub put_open-noted-requires-then-c-eq-LINE_FEED : goal.put_open-noted-requires-then-c-eq-LINE_FEED
+put_open-noted-requires-then-c-eq-LINE_FEED c =
     omega (arith, c.run_units-r.ensures.noted.place, c.run_units-r.ensures.few, c.run_units-r.ensures.reach.within.inside, c.run_units-r.ensures.reach.within.size, c.requires.room.errors)
 
 pub returns-then-c-eq-LINE_FEED : goal.returns-then-c-eq-LINE_FEED
 returns-then-c-eq-LINE_FEED c =
     let w = subst (NextAt c.args.text.now c.run_units-r.result.at) c.in-Some.is c.look.ensures in
-    piece_by c.args.text.now c.args.p c.args.start c.args.first c.args.texts.now c.run_units-r.new.texts c.args.used_texts c.args.errors.now c.put_unclosed-noted-then-c-eq-LINE_FEED.new.errors c.args.used_errors _ _ c.literal-then-c-eq-LINE_FEED.ensures
-    (at_feed c.args.text.now c.args.p c.args.start c.args.first c.args.texts.now c.run_units-r.new.texts c.args.used_texts c.args.errors.now c.run_units-r.new.errors c.args.used_errors c.run_units-r.result c.run_units-r.ensures c.put_unclosed-noted-then-c-eq-LINE_FEED.new.errors _ (chars_at c.args.text.now c.in-Some.q.offset) (w.0.chars ∙ ap (λ (d : ℕ). d ∷ chars_at c.args.text.now c.in-Some.q.offset) c.if-c-eq-LINE_FEED.true) c.put_unclosed-noted-then-c-eq-LINE_FEED.ensures)
+    piece_by c.args.text.now c.args.p c.args.start c.args.first c.args.texts.now c.run_units-r.new.texts c.args.used_texts c.args.errors.now c.put_open-noted-then-c-eq-LINE_FEED.new.errors c.args.used_errors _ _ c.literal-then-c-eq-LINE_FEED.ensures
+    (at_feed c.args.text.now c.args.p c.args.start c.args.first c.args.texts.now c.run_units-r.new.texts c.args.used_texts c.args.errors.now c.run_units-r.new.errors c.args.used_errors c.run_units-r.result c.run_units-r.ensures c.put_open-noted-then-c-eq-LINE_FEED.new.errors _ (chars_at c.args.text.now c.in-Some.q.offset) (w.0.chars ∙ ap (λ (d : ℕ). d ∷ chars_at c.args.text.now c.in-Some.q.offset) c.if-c-eq-LINE_FEED.true) c.put_open-noted-then-c-eq-LINE_FEED.ensures)
 
 pub returns-then-first : goal.returns-then-first
 returns-then-first c =
