@@ -78,7 +78,8 @@ pub fn look(text: &[u8], p: Position) -> Option<(u32, Position)>
     }
 }
 
-// Whether a byte belongs to a character that is passed, where x, y and z are not. Every byte of a character beyond ASCII does.
+// Whether a byte belongs to a character that is passed, where x, y and z are not. Every byte of a character beyond ASCII does. They are three
+// parameters, here and below: an array would be taken apart again for each byte.
 fn is_plain(x: u8, y: u8, z: u8, b: u8) -> bool
     ensures { result ≡ is_plain x y z b }
 {

@@ -35,7 +35,7 @@ fn is_binary_part(b: u8) -> bool
     (b == b'0') | (b == b'1')
 }
 
-// Past digits.
+// Past digits. This and the three below are calls of one walk, each with its test and its promise.
 pub fn past_digits(text: &[u8], from: usize) -> usize
     requires { from ≤ length text.now }
     ensures { Cut text.now from (run is_digit (chars_at text.now from)) result }

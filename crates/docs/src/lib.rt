@@ -52,7 +52,8 @@ pub fn feeds_after(feeds: usize, empty: bool) -> usize
     feeds + 1
 }
 
-// The text of a comment of three slashes: the part trimmed. The result is the place after it.
+// The text of a comment of three slashes: the part trimmed. The result is the place after it. The print begins with the same two calls
+// (print_docs): each writes the line in its own way.
 pub fn trim_text(part: &[u8], texts: &mut [u8], at: usize) -> usize
     requires { at + length part.now ≤ PLACES }
     ensures { Written part.now texts.old texts.new at (trim (chars_of part.now)) result }

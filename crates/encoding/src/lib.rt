@@ -38,6 +38,7 @@ fn put<const N: usize>(buf: &mut [u8], at: usize, bytes: &[u8; N])
 }
 
 // The character at a place of the buffer, and the place after it. It is a number, since a `char` would ask more: no surrogates.
+// What is cut to a byte fits one, which the casts ask to be shown.
 pub fn put_char(buf: &mut [u8], at: usize, c: u32) -> usize
     requires c_bound { c ≤ 0x10FFFF }
     requires c_in_bounds { at + width c ≤ length buf.old }

@@ -9,7 +9,7 @@ pub const SLOT_COUNT: usize = 256;
 pub type SlotTable = [u8; SLOT_COUNT];
 
 // A row of the table of keywords: the length, then the letters, of which the longest keyword has LONGEST, and the kind. Row 0 is no
-// keyword.
+// keyword. Rows have one length, so that a name is compared without a branch on it.
 pub const LENGTH_COLUMN: usize = 0;
 
 pub const FIRST_LETTER: usize = 1;
@@ -24,7 +24,7 @@ pub const ROWS: usize = 60;
 
 pub type KeywordTable = [[u8; COLUMNS]; ROWS];
 
-// By slot, the row of the keyword that has it, or 0.
+// By slot, the row of the keyword that has it, or 0: row 0 is a row too, that no name is, so that a name is looked up without a branch.
 const SLOTS: SlotTable = [
     0, 0, 0, 0, 7, 39, 0, 26, 0, 0, 0, 57, 0, 0, 0, 0, 0, 0, 0, 0, 0, 58, 0, 13, 0, 0, 0, 0, 0, 0,
     0, 0, 16, 0, 0, 0, 0, 48, 0, 0, 0, 33, 0, 9, 0, 52, 0, 0, 0, 0, 0, 0, 0, 0, 53, 43, 0, 0, 0, 0,

@@ -39,7 +39,7 @@ pub fn put_span(s: Span, buf: &mut [u8], at: usize) -> usize
     put_field(s.end_col as u64, buf, e)
 }
 
-// A byte as two hexadecimal digits.
+// A byte as two hexadecimal digits. A function for this place and `put_unicode` of the print would be no more than these two writes.
 fn put_hex_byte(b: u8, buf: &mut [u8], at: usize) -> usize
     requires { at < PLACES }
     ensures { Put buf.old buf.new at (digit_char (b / SIXTEEN) ∷ digit_char (b % SIXTEEN) ∷ []) result }

@@ -67,7 +67,7 @@ fn put_tokens<'a>(
     p
 }
 
-// The lines of the errors from the first on, of which there are at most so many.
+// The lines of the errors from the first on, of which there are at most so many: a number of turns, and no length of the buffer.
 fn put_errors(s: &[u8], count: usize, buf: &mut [u8], at: usize) -> usize
     requires { Room at (errors_read s.now count) }
     ensures { Put buf.old buf.new at (errors_read s.now count) result }

@@ -40,7 +40,8 @@ pub struct Recorded {
     pub errors: usize,
 }
 
-// A doc comment of one line: its text's part of the script, and the position behind it.
+// A doc comment of one line: its text's part of the script, and the position behind it. The part is two places, as in DocBlock: a slice would
+// tie each such answer to the text's lifetime.
 #[derive(Clone, Copy)]
 pub struct DocLine {
     pub from: usize,

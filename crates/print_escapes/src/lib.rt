@@ -108,6 +108,7 @@ pub fn put_letter(c: u32, named: bool, out: &mut [u8], at: usize) -> usize
     if BEYOND_ASCII <= c {
         return output::put_char(c, out, at);
     }
+    // It fits, since it is ASCII here.
     let b = c as u8;
     if named & is_word(b) {
         return put_unicode(b, out, at);

@@ -18,7 +18,8 @@ pub struct Stop {
     pub class: u8,
 }
 
-// Past one character of white space, also beyond ASCII; it stays only where there is none.
+// Past one character of white space, also beyond ASCII; it stays only where there is none, and the walk asks whether it moved: an Option
+// would be taken apart for the same test.
 fn past_wide(text: &[u8], from: usize) -> usize
     requires { Within text.now (placed from) }
     ensures { SomeWhite text.now from result }

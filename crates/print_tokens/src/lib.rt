@@ -21,7 +21,7 @@ use print_places::{Flawed, Written};
 // The bytes of the longest character: the size of a buffer, which no byte string tells.
 const CHARACTER_BYTES: usize = 4;
 
-// The quotes in front of a raw string's text.
+// The quotes in front of a raw string's text. It is a number of places, and no such string stands in the code.
 const QUOTES: usize = 3;
 
 // The raw string at a place, as an ordinary one.
@@ -49,7 +49,7 @@ pub fn put_raw(text: &[u8], from: usize, out: &mut [u8], at: usize) -> Result<Wr
     })
 }
 
-// A character literal whose text is the first n bytes of `made`.
+// A character literal whose text is the first n bytes of `made`: they are cut off here alone, where they are written.
 fn put_made(made: &[u8], n: usize, out: &mut [u8], at: usize) -> usize
     requires n_in_bounds { n ≤ length made.now }
     requires n_bound { n ≤ LIMIT }

@@ -12,7 +12,7 @@ use questions::ask_text;
 use questions::script::Script;
 use refusals::Refusal;
 
-// One pass of the print, over the first n bytes of a buffer; the others keep.
+// One pass of the print, over the first n bytes of a buffer; the others keep, which the promise says of the whole buffer.
 fn write_front(script: Script<'_>, out: &mut [u8], n: usize) -> Result<usize, Flawed>
     requires { n ≤ length out.old }
     ensures { WalkedFront script.entry.bytes.now n out.old out.new result }

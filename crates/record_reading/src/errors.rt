@@ -36,6 +36,7 @@ pub fn error_at(s: &[u8], at: usize) -> ErrorRecord
         let kind = ErrorKind::of(number, code);
         return ErrorRecord { kind, span };
     }
+    // Of a kind that carries none, no code point matters.
     let kind = ErrorKind::of(number, 0);
     ErrorRecord { kind, span }
 }

@@ -53,7 +53,7 @@ pub fn is_whole(s: &[u8], at: usize) -> bool
     kinds::record_length(kind) <= s.len() - at
 }
 
-// The record that starts at a place.
+// The record that starts at a place. That a whole one does is what question 7 has told of this place, so it is asked, here and below.
 pub fn record_at(s: &[u8], at: usize) -> TokenRecord
     requires { is_whole s.now at ≡ true }
     ensures { result ≡ record_at s.now at }
@@ -132,7 +132,7 @@ pub fn consume(s: &[u8], at: usize, kind: u8) -> Result<(TokenRecord, bool, usiz
 }
 
 // Whether the record at a place is of the kind asked for, and the place where a reader then stands, or the refusals 6 and 7. It moves on
-// only then.
+// only then; the place is part of the answer either way, so it is no Option.
 pub fn match_kind(s: &[u8], at: usize, kind: u8) -> Result<(bool, usize), Refusal>
     ensures { of_turn at result ≡ match_at s.now at kind }
 {

@@ -66,7 +66,7 @@ pub fn put_token(buf: &mut [u8], at: usize, r: TokenRecord) -> usize
     at + fields::HEAD
 }
 
-// An error's record. The result is the place after it.
+// An error's record. The result is the place after it. The library has no `From` from a `u32` to a `usize`, so that stays a cast.
 pub fn put_error(buf: &mut [u8], at: usize, kind: u8, span: Span, code: u32) -> usize
     requires { at + error_length kind ≤ length buf.old }
     ensures { (result ≡ at + error_length kind) × (buf.new ≡ sets buf.old at (error_record kind span code)) }

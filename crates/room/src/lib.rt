@@ -18,7 +18,8 @@ pub struct Used {
     pub closed: bool,
 }
 
-// Whether buffers of these sizes hold what any text of n bytes can take.
+// Whether buffers of these sizes hold what any text of n bytes can take. The sizes are three numbers, as the papers name the buffers one by
+// one: a struct of them would be built for this call and the questions' alone.
 pub fn is_roomy(n: usize, tokens: usize, texts: usize, errors: usize) -> bool
     requires { n ≤ LIMIT }
     ensures { result ≡ roomy n tokens texts errors }

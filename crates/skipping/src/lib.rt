@@ -72,7 +72,8 @@ fn skip_wide(text: &[u8], p: Position) -> Position
     }
 }
 
-// Past some of the white space at a position: all that is beyond ASCII, or one character; none only where there is none.
+// Past some of the white space at a position: all that is beyond ASCII, or one character; none only where there is none. The
+// walk asks whether the position moved: an Option would be taken apart for the same test.
 fn skip_some(text: &[u8], p: Position) -> Position
     requires { Within text.now p }
     ensures { SomeWhite text.now p result }

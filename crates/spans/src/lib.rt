@@ -23,7 +23,7 @@ pub struct Span {
 }
 
 impl Span {
-    // The span of one position.
+    // The span of one position, by its three numbers as in the Rust (span.rs).
     pub fn single(byte_offset: usize, line: usize, col: usize) -> Span
         ensures { result ≡ single byte_offset line col }
     {

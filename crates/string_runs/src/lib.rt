@@ -106,7 +106,8 @@ fn put_simple(text: &[u8], p: Position, texts: &mut [u8], used_texts: usize) -> 
     }
 }
 
-// The units from p to where none stands.
+// The units from p to where none stands. The places of the two buffers are two numbers, since half of such functions fill one buffer alone;
+// the steps, which hand on both, have a struct for them.
 pub fn run_units(
     text: &[u8],
     p: Position,
