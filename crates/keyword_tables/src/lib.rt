@@ -24,7 +24,7 @@ pub const ROWS: usize = 60;
 
 pub type KeywordTable = [[u8; COLUMNS]; ROWS];
 
-// By slot, the row of the keyword that has it, or 0: row 0 is a row too, that no name is, so that a name is looked up without a branch.
+// By slot, the row of the keyword that has it, or 0: row 0 has the length of no name, so that none needs no case of its own.
 const SLOTS: SlotTable = [
     0, 0, 0, 0, 7, 39, 0, 26, 0, 0, 0, 57, 0, 0, 0, 0, 0, 0, 0, 0, 0, 58, 0, 13, 0, 0, 0, 0, 0, 0,
     0, 0, 16, 0, 0, 0, 0, 48, 0, 0, 0, 33, 0, 9, 0, 52, 0, 0, 0, 0, 0, 0, 0, 0, 53, 43, 0, 0, 0, 0,
