@@ -36,7 +36,7 @@ pub record Within (s : List ℕ) (p : Position) : Type 0 where
   pub lines : p.line ≤ p.offset + 1
   pub columns : p.col ≤ p.offset + 2
 
--- There is room for `n` bytes more.
+-- There is room for `n` bytes more. It is asked and is no type: it bounds one sum.
 pub record Fits (p : Position) (n : ℕ) : Type 0 where
   pub places : p.offset + n ≤ 2 * LIMIT
   pub lines : p.line ≤ p.offset + 1

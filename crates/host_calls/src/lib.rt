@@ -34,7 +34,8 @@ pub fn measure(script: &[u8], answer: &mut [u64; USED_SLOTS]) -> u64
     put_answer(lexer::measure(script).map(used_slots), answer)
 }
 
-// Tokenises a script into three lent buffers.
+// Tokenises a script into three lent buffers. It has the shape of `text_check` of host_reading: a call, and its answer put into slots, which is
+// `put_answer` for both.
 pub fn tokenize(
     script: &[u8],
     tokens: &mut [u8],

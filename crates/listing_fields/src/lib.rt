@@ -26,7 +26,7 @@ pub fn put_field(x: u64, buf: &mut [u8], at: usize) -> usize
     output::put_bytes(&digits[..n], buf, p)
 }
 
-// The six fields of a span.
+// The six fields of a span. The library has no `From` from a `usize` to a `u64`.
 pub fn put_span(s: Span, buf: &mut [u8], at: usize) -> usize
     requires { Room at (span_fields s) }
     ensures { Put buf.old buf.new at (span_fields s) result }

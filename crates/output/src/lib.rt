@@ -45,7 +45,7 @@ pub fn put_bytes(part: &[u8], buf: &mut [u8], at: usize) -> usize
     end
 }
 
-// A hexadecimal digit, with small letters.
+// A hexadecimal digit, with small letters. The library's `from_digit` answers a `char` or none, which would be made a byte again.
 pub fn hex_digit(d: u8) -> u8
     requires { d < HEX }
     ensures { result ≡ digit_char d }

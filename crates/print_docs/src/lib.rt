@@ -19,7 +19,7 @@ use characters::space;
 use text_parts::lines::Cursor;
 use text_parts::{Part, lines};
 
-// A doc text of one line.
+// A doc text of one line. That a part is no longer than a script is asked, here and below, and is no type: it bounds sums.
 fn put_short(line: &[u8], out: &mut [u8], at: usize) -> usize
     requires line_len_bound { length line.now ≤ LIMIT }
     requires line_value { one_of line.now LF ≡ false }

@@ -65,6 +65,7 @@ fn past_bare(quote: u8, text: &[u8], from: usize) -> usize
 }
 
 // A text between quotes. It goes by runs: what is not escaped is copied at once, and not byte by byte as `for` over the text would.
+// That the text is no longer than a script is asked, here and below, and is no type: it bounds sums.
 pub fn put_escapes(quote: u8, text: &[u8], out: &mut [u8], at: usize) -> usize
     requires text_bound { length text.now ≤ LIMIT }
     requires at_bound { at ≤ MOST + MOST / 2 }

@@ -29,6 +29,7 @@ pub struct Row {
 
 // Bytes of a literal: as they stand where `plain` says so, which spares a second look at each. Both flags say what the bytes are and what
 // stands before them, as the walk over the units found it; the bytes written are the same for either value of `plain`.
+// That they are no more than a script has is asked, here and below, and is no type: it bounds sums.
 fn put_bytes(part: &[u8], plain: bool, named: bool, out: &mut [u8], at: usize) -> usize
     requires part_some { 0 < length part.now }
     requires part_len_bound { length part.now ≤ LIMIT }

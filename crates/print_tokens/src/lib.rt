@@ -21,7 +21,7 @@ use print_places::{Flawed, Written};
 // The bytes of the longest character: the size of a buffer, which no byte string tells.
 const CHARACTER_BYTES: usize = 4;
 
-// The quotes in front of a raw string's text. It is a number of places, and no such string stands in the code.
+// The quotes in front of a raw string's text: how far they are passed. The string itself stands where they are looked for.
 const QUOTES: usize = 3;
 
 // The raw string at a place, as an ordinary one.

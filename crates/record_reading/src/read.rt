@@ -10,7 +10,8 @@ use records::{fields, kinds};
 use refusals::Refusal;
 use spans::Span;
 
-// The 32-bit little-endian number at a place. That it lies in the slice is asked: a slice of four bytes would have to be cut out first.
+// The 32-bit little-endian number at a place. That it lies in the slice is asked: a slice of four bytes would have to be cut out first. The
+// library has no `From` from a `u32` to a `usize`.
 pub fn get32(s: &[u8], at: usize) -> usize
     requires { at + 4 ≤ length s.now }
     ensures { (result ≡ num32 s.now at) × (result < WORD) }
