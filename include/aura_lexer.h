@@ -1,7 +1,7 @@
 /* The proved Aura lexer: the calls of the static library libaura_host.a, for C99 and C++11.
  *
  * The library is for x86-64 Linux alone, whatever machine it was built on: ELF, position-independent code, 64-bit sizes. From the
- * host it takes memcpy, memmove and memset only, and this header takes stddef.h and stdint.h only.
+ * host it takes memcpy and memset only, and this header takes stddef.h and stdint.h only.
  *
  * Every call
  *   - keeps no memory of its own, takes no heap and starts nothing, so calls may run on several threads at a time;

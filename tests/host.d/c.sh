@@ -92,7 +92,7 @@ c_library() {
     local name
     objdump -f "$library" | awk '/file format/ { seen = 1; if ($NF != "elf64-x86-64") other = 1 } END { exit other || !seen }' \
         || fail "$library is not for x86-64 alone"
-    [ "$(nm -P -u "$library" | awk 'NF > 1 { print $1 }' | sort -u | paste -sd " ")" = "memcpy memmove memset" ] || fail "$library takes more than memcpy, memmove and memset from the host"
+    [ "$(nm -P -u "$library" | awk 'NF > 1 { print $1 }' | sort -u | paste -sd " ")" = "memcpy memset" ] || fail "$library takes more than memcpy and memset from the host"
     for name in $(nm -P -g --defined-only "$library" | awk 'NF > 1 { print $1 }'); do
         grep -qE "^uint64_t $name\(" include/aura_lexer.h || fail "include/aura_lexer.h does not declare $name"
         checks=$((checks + 1))

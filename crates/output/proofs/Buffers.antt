@@ -5,13 +5,12 @@ use mathlib.Core.List.{List, [], ◌∷◌, ◌++◌}
 use Prim.Native.Nat.{ℕ, suc, ◌+◌, ◌-◌, ◌≤◌, ◌<◌, min}
 use native.Mathlib.Nat.{add-zero}
 use native.Mathlib.Omega.{arith}
-use lib.ListN.{length, set, take, drop, length-append, length-take, length-drop, take-append-drop}
+use lib.ListN.{length, set, get_or, take, drop, length-append, length-take, length-drop, take-append-drop}
 use lib.Seq.{sets, sets-eq, length-sets, set_out, slice}
-use lib.Seq.{take_all, take_at, drop_at, take-add, drop-append-le, length-take-le}
-use borrow.Rule.Slice.PartMut.{put_mid}
+use lib.Seq.{take_all, take_at, drop_at, take-add, take-suc, drop-append-le, length-take-le}
 use Rattle.std.proofs.lemmas.Slice.{between_is}
 use Rattle.characters.proofs.Choice.{le_or_lt}
-use Rattle.characters.proofs.Buffers.{sets_append, sets_part}
+use Rattle.characters.proofs.Buffers.{sets_append, sets_more}
 use Rattle.output.specs.Writing.{Put}
 
 -- ── Writes one after another ──
@@ -76,14 +75,18 @@ part_fits old vs at n h g =
     (λ f. let i : length old ≤ at + length (take n vs) = rw e (g f) in sym (ap (sets old at) (sym (take-append-drop n vs)) ∙ sets_front old at (take n vs) (drop n vs) i))
     (le_or_lt (length vs) n)
 
--- The buffer from a place on, as far as it goes, became the bytes of the part that fit.
-pub part_put : (old vs mid : List ℕ) (at k n : ℕ) → at ≤ length old → n ≡ min (length vs) (length old - at) → k ≡ n → mid ≡ take n vs
-    → Put old (put_mid at k old mid) at vs (at + length vs)
-part_put old vs mid at k n h e f g =
-    let x : n ≤ length vs = omega arith in
-    let y : at + k ≤ length old = omega arith in
-    let l : length (take n vs) ≡ k = length-take-le n vs x ∙ sym f in
-    record { written = sets_part old mid (take n vs) at k g l y ∙ part_fits old vs at n x (omega arith); place = refl }
+-- One byte more of a part.
+pub copy_more : (old b vs : List ℕ) (at i : ℕ) → i < length vs → b ≡ sets old at (take i vs)
+    → set b (at + i) (get_or vs i 0) ≡ sets old at (take (i + 1) vs)
+copy_more old b vs at i h e =
+    let f : i + 1 ≡ suc i = omega arith in
+    rw f (sets_more old b _ at i (take i vs) (get_or vs i 0 ∷ []) (length-take-le i vs (omega arith)) e refl ∙ ap (sets old at) (sym (take-suc vs i 0 h)))
+
+-- The bytes of the part that fit were written.
+pub part_put : (old b vs : List ℕ) (at n : ℕ) → at ≤ length old → n ≡ min (length vs) (length old - at) → b ≡ sets old at (take n vs)
+    → Put old b at vs (at + length vs)
+part_put old b vs at n h e f =
+    record { written = f ∙ part_fits old vs at n (omega arith) (omega arith); place = refl }
 
 -- The part of a text that the code lends is the slice that a rule names.
 pub put_slice : (s : List ℕ) (from to : ℕ) {old new : List ℕ} {at r : ℕ} → Put old new at (take (to - from) (drop from s)) r → Put old new at (slice from to s) r

@@ -30,7 +30,7 @@ pub fn put_byte(buf: &mut [u8], at: usize, b: u8) -> usize
     at + 1
 }
 
-// The bytes of a part. The library's copy takes `memmove` from the host (docs/HOSTS.md); a loop of its own would be no plainer.
+// The bytes of a part. They are copied by a loop, since the library's `copy_from_slice` would take `memmove` from the host.
 pub fn put_bytes(part: &[u8], buf: &mut [u8], at: usize) -> usize
     requires part_bound { length part.now ≤ PLACES }
     requires at_bound { at ≤ PLACES }
@@ -41,7 +41,9 @@ pub fn put_bytes(part: &[u8], buf: &mut [u8], at: usize) -> usize
         return end;
     }
     let n = part.len().min(buf.len() - at);
-    buf[at..at + n].copy_from_slice(&part[..n]);
+    for i in 0..n {
+        buf[at + i] = part[i];
+    }
     end
 }
 
