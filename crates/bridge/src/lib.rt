@@ -122,6 +122,8 @@ pub fn plain_end(text: &[u8], from: usize, x: u8, y: u8, z: u8) -> usize
     requires { Stops x y z }
     ensures { RunEnd (is_plain x y z) text.now from result }
 {
-    let inside = from.min(text.len());
-    runs::past(text, inside, |b| is_plain(x, y, z, b))
+    if text.len() <= from {
+        return from;
+    }
+    runs::past(text, from, |b| is_plain(x, y, z, b))
 }

@@ -1,6 +1,7 @@
 -- The words of a line: spellings, code points, and the fixed lines. Assumes nothing.
-use Rattle.std.specs.Prelude.{Some, None}
-use mathlib.Core.Path.{◌≡◌, refl}
+use Rattle.std.specs.Option.{unwrap_or}
+use mathlib.Core.Path.{◌≡◌, refl, ap}
+use mathlib.Core.Option.{Option}
 use mathlib.Core.Bool.{Bool, true, false, ◌&&◌}
 use mathlib.Core.List.{List, [], ◌∷◌, ◌++◌, append-nil}
 use Prim.Native.Nat.{ℕ, zero, suc, ◌≤◌, zero-le}
@@ -9,10 +10,13 @@ use lib.Dec.{leb}
 use lib.ListN.{length, get_or}
 use Rattle.characters.proofs.Choice.{and_both}
 use Rattle.records.specs.Errors.{kind_number, kind_code, error_of}
-use Rattle.records.proofs.ErrorLaws.{code_some, code_none}
+use Rattle.records.specs.Kinds.{has_code}
+use Rattle.records.proofs.ErrorLaws.{char_or_none}
 use Rattle.spellings.specs.Spelling.{ascii, spellings, spelling}
 use Rattle.records.specs.declared.answers.ErrorRecord.{ErrorRecord}
 use Rattle.listing_fields.specs.Fields.{field, code_field}
+use Rattle.spans.specs.declared.Span.{Span}
+use Rattle.listing_lines.specs.Words.{error}
 use Rattle.listing_lines.specs.Lines.{ending, head_of, error_line, closed_line}
 
 -- ── Spellings ──
@@ -37,15 +41,18 @@ spelling_short k = nine_at spellings spellings_nine k
 
 -- ── Errors ──
 
-pub error_with : (r : ErrorRecord) (v : ℕ) → kind_code r.kind ≡ Some v
-    → head_of 69 (kind_number r.kind) r.span ++ field v ++ ending ≡ error_line (error_of r)
+pub error_with : (kind code : ℕ) (span : Span) → has_code kind ≡ true
+    → head_of 69 kind span ++ field code ++ ending ≡ error_line (error kind span code)
 unfolding error_line code_field
-error_with r v e = rw (code_some r.kind v e).1
+error_with kind code span e = rw e
 
-pub error_bare : (r : ErrorRecord) → kind_code r.kind ≡ None
-    → head_of 69 (kind_number r.kind) r.span ++ ending ≡ error_line (error_of r)
+pub error_bare : (kind code : ℕ) (span : Span) → has_code kind ≡ false → head_of 69 kind span ++ ending ≡ error_line (error kind span code)
 unfolding error_line code_field
-error_bare r e = rw ((code_none r.kind e).1, append-nil (head_of 69 (kind_number r.kind) r.span))
+error_bare kind code span e = rw (e, append-nil (head_of 69 kind span))
+
+-- A record's error, by its number and its code point, which is 0 where it has none.
+pub error_named : (r : ErrorRecord) → error (kind_number r.kind) r.span (unwrap_or (kind_code r.kind) 0) ≡ error_of r
+error_named r = ap (λ (o : Option ℕ). record { kind = kind_number r.kind; span = r.span; char = o }) (char_or_none r.kind)
 
 -- ── The last line ──
 

@@ -6,11 +6,12 @@ ghost use Rattle.records.specs.Errors.{error_of};
 ghost use Rattle.spellings.specs.Spelling.{spelling};
 ghost use Rattle.listing_fields.specs.Room.{Room};
 ghost use Rattle.listing_lines.specs.Lines.{head_of, token_line, error_line, closed_line, refused_line};
-ghost use Rattle.listing_lines.specs.Words.{token};
+ghost use Rattle.listing_lines.specs.Words.{token, error};
 
 use listing_fields::put_field;
 use output::{put_byte, put_bytes};
 use records::answers::ErrorRecord;
+use records::kinds;
 use spans::Span;
 use spellings::spelling;
 
@@ -42,17 +43,26 @@ pub fn put_fixed(kind: u8, s: Span, buf: &mut [u8], at: usize) -> usize
     put_token(kind, s, spelling(kind), buf, at)
 }
 
+// The line of an error, by the number of its kind; the code point stands there where kinds of this number carry one.
+pub fn put_error_number(kind: u8, s: Span, code: u32, buf: &mut [u8], at: usize) -> usize
+    requires { Room at (error_line (error kind s code)) }
+    ensures { Put buf.old buf.new at (error_line (error kind s code)) result }
+{
+    let p = put_head(b'E', kind, s, buf, at);
+    if kinds::has_code(kind) {
+        let q = put_field(u64::from(code), buf, p);
+        return put_byte(buf, q, b'\n');
+    }
+    put_byte(buf, p, b'\n')
+}
+
 // The line of an error.
 pub fn put_error(r: ErrorRecord, buf: &mut [u8], at: usize) -> usize
     requires { Room at (error_line (error_of r)) }
     ensures { Put buf.old buf.new at (error_line (error_of r)) result }
 {
-    let p = put_head(b'E', r.kind.number(), r.span, buf, at);
-    let Some(code) = r.kind.code() else {
-        return put_byte(buf, p, b'\n');
-    };
-    let q = put_field(u64::from(code), buf, p);
-    put_byte(buf, q, b'\n')
+    let code = r.kind.code().unwrap_or(0);
+    put_error_number(r.kind.number(), r.span, code, buf, at)
 }
 
 // `closed` or `open`: the flag is the answer that the line tells.

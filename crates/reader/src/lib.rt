@@ -24,6 +24,13 @@ impl<'a> Reader<'a> {
         Reader { records, at: 0 }
     }
 
+    // The reader at another place.
+    pub fn moved(self, at: usize) -> Self
+        ensures { (result.records ≡ self.entry.records) × (result.at ≡ at) }
+    {
+        Reader { at, ..self }
+    }
+
     // The record where the reader stands. It moves behind it, but for EOF.
     pub fn next(&mut self) -> Result<TokenRecord, Refusal>
         ensures answer { of_answer result ≡ (next_at self.old.records.now self.old.at).answer }

@@ -1,6 +1,6 @@
 -- Laws of the kinds of errors. Assumes nothing.
 use Rattle.std.specs.Prelude as code
-use Rattle.std.specs.Prelude.{Some, None}
+use Rattle.std.specs.Prelude.{Some, None, if◌then◌else◌}
 use Rattle.std.specs.Option.{unwrap_or}
 use mathlib.Core.Path.{◌≡◌, refl, ap}
 use mathlib.Core.Bool.{Bool, true, false, false≢true, true≢false}
@@ -65,6 +65,20 @@ char_none (kind.BadEscape c) e = absurd (true≢false e)
 char_none kind.UnterminatedInterpolation e = refl
 char_none kind.UnterminatedCharacter e = refl
 char_none kind.UnterminatedDocComment e = refl
+
+-- What kinds of its number carry is what the kind carries.
+pub char_or_none : (k : ErrorKind) → (if has_code (kind_number k) then some (unwrap_or (kind_code k) 0) else none) ≡ kind_char k
+unfolding has_code
+char_or_none (kind.UnexpectedCharacter c) = refl
+char_or_none kind.UnterminatedBlockComment = refl
+char_or_none kind.UnterminatedRawString = refl
+char_or_none kind.UnterminatedString = refl
+char_or_none kind.LineFeedInString = refl
+char_or_none kind.BadUnicodeEscape = refl
+char_or_none (kind.BadEscape c) = refl
+char_or_none kind.UnterminatedInterpolation = refl
+char_or_none kind.UnterminatedCharacter = refl
+char_or_none kind.UnterminatedDocComment = refl
 
 -- The code point, or 0 where there is none.
 pub code_or_zero : (k : ErrorKind) → unwrap_or (kind_code k) 0 ≡ code_of (kind_char k)
