@@ -99,7 +99,7 @@ cut_length s at to a x = rw (← x.bytes) (length-slice at to s x.inside)
 
 module _ (f : Char → Bool) (low : Low 11 f) (s : List ℕ) where
   -- A run goes on at a byte that passes, and stops at one that does not.
-  run_more : (at to : ℕ) → f (get_or s at 0) ≡ true → Cut s (at + 1) (run f (chars_at s (at + 1))) to
+  pub run_more : (at to : ℕ) → f (get_or s at 0) ≡ true → Cut s (at + 1) (run f (chars_at s (at + 1))) to
       → Cut s at (run f (chars_at s at)) to
   unfolding run
   run_more at to t k =
@@ -107,11 +107,11 @@ module _ (f : Char → Bool) (low : Low 11 f) (s : List ℕ) where
       let b = byte_cons f (low_weak f low) s at t in
       rw (b.1, t) (cut_cons s at (run f (chars_at s (at + 1))) to b.0 q.0 q.1 k)
 
-  run_stop : (at : ℕ) → at ≤ length s → f (get_or s at 0) ≡ false → Cut s at (run f (chars_at s at)) at
+  pub run_stop : (at : ℕ) → at ≤ length s → f (get_or s at 0) ≡ false → Cut s at (run f (chars_at s at)) at
   run_stop at h t =
       rw (run_none f (chars_at s at) (byte_next f (low_weak f low) s at ∙ t)) (cut_nothing s at h)
 
-  run_end : (at : ℕ) → length s ≤ at → at ≤ length s → Cut s at (run f (chars_at s at)) at
+  pub run_end : (at : ℕ) → length s ≤ at → at ≤ length s → Cut s at (run f (chars_at s at)) at
   run_end at l h = run_stop at h (past_end f (low_weak f low) s at l)
 
   -- A walk past the bytes that pass, where each answer of its test is that of `f`.

@@ -173,17 +173,17 @@ pub mid_at_start : (f : Char → Bool) (s : List ℕ) (from : ℕ) → MidAt f s
 mid_at_start f s from p e w = (p.col, subst (λ (n : ℕ). Mid f s p n p.col) e (mid_start f s p w))
 
 module _ (x y z : ℕ) (stops : Stops x y z) (s : List ℕ) (from at : ℕ) (m : MidAt (is_plain x y z) s from at) where
-  mid_at_more : at < length s → is_plain x y z (get_or s at 0) ≡ true → MidAt (is_plain x y z) s from (at + 1)
+  pub mid_at_more : at < length s → is_plain x y z (get_or s at 0) ≡ true → MidAt (is_plain x y z) s from (at + 1)
   mid_at_more h g p e w = go (is_tail (get_or s at 0)) refl
     where
       go : (t : Bool) → is_tail (get_or s at 0) ≡ t → (col : ℕ) × Mid (is_plain x y z) s p (at + 1) col
       go true t = ((m p e w).0, mid_tail x y z stops s p at (m p e w).0 (m p e w).1 h t)
       go false t = ((m p e w).0 + 1, mid_char x y z stops s p at (m p e w).0 (m p e w).1 h t g)
 
-  mid_at_stop : at < length s → is_plain x y z (get_or s at 0) ≡ false → RunEnd (is_plain x y z) s from at
+  pub mid_at_stop : at < length s → is_plain x y z (get_or s at 0) ≡ false → RunEnd (is_plain x y z) s from at
   mid_at_stop h g p e w = let (col, k) = m p e w in (spot p at col, refl, mid_stop x y z stops s p at col k h g)
 
-  mid_at_end : length s ≤ at → RunEnd (is_plain x y z) s from at
+  pub mid_at_end : length s ≤ at → RunEnd (is_plain x y z) s from at
   mid_at_end l p e w = let (col, k) = m p e w in (spot p at col, refl, mid_end x y z stops s p at col k l)
 
 -- A walk past the bytes that pass, where each answer of its test is that of `is_plain`.

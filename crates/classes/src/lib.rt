@@ -40,7 +40,7 @@ const CLASSES: [u8; ASCII] = [
 ];
 
 // The table of classes. It is made once and lent: a constant is made anew wherever it is named.
-#[derive(Drop)]
+#[derive(Clone, Copy)]
 pub struct Classes {
     table: [u8; ASCII],
     ghost made: { table ≡ class_table },

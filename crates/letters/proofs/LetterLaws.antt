@@ -50,12 +50,12 @@ module _ (s : List ℕ) (p r : Position) (e : ℕ) (k : Reach s p (92 ∷ e ∷ 
       char_unit s p r (record { chars = 92 ∷ e ∷ []; made = c ∷ []; faults = [] }) None k h (no_error p (92 ∷ e ∷ []) (c ∷ [])) c refl l w
 
   -- A letter that is no escape's stands for itself.
-  letter_itself : e ≤ 0x10FFFF → lookup e ESCAPES ≡ none
+  pub letter_itself : e ≤ 0x10FFFF → lookup e ESCAPES ≡ none
       → UnitAt s p (escape_letter e cs) (record { next = r; made = made.Char e; mistake = None })
   unfolding escape_letter escape plain_escape
   letter_itself l y = let o = two_on in rw (ne_eqb e 117 n, y) (made_one e l (omega arith) (omega arith))
 
-  letter_escape : (v : ℕ) → lookup e ESCAPES ≡ some v
+  pub letter_escape : (v : ℕ) → lookup e ESCAPES ≡ some v
       → UnitAt s p (escape_letter e cs) (record { next = r; made = made.Char v; mistake = None })
   unfolding escape_letter escape plain_escape
   letter_escape v y =

@@ -20,9 +20,9 @@ const LAST_COLUMN: u8 = 11;
 
 // A row for each first mark, in the order of the classes from 1 on, and a column for each next mark, in the same order; column 0 is
 // any other next character, or none.
-const ROWS: usize = LAST_MARK as usize;
+pub const ROWS: usize = LAST_MARK as usize;
 
-const COLUMNS: usize = LAST_COLUMN as usize + 1;
+pub const COLUMNS: usize = LAST_COLUMN as usize + 1;
 
 // The kinds of the marks.
 const MARKS: [[u8; COLUMNS]; ROWS] = [
@@ -77,7 +77,7 @@ fn third_kind(kind: u8) -> Option<u8>
 }
 
 // The table of marks, and the classes by which the marks are told. It is made once and lent.
-#[derive(Drop)]
+#[derive(Clone, Copy)]
 pub struct Marks {
     pub classes: Classes,
     kinds: [[u8; COLUMNS]; ROWS],

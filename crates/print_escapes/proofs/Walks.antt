@@ -29,12 +29,12 @@ part_more s from at h k =
 
 -- ── Past the bytes that stand as they are ──
 
-record Passing (q : Char) (s : List ℕ) (from to at : ℕ) : Type 0 where
-  forth : from ≤ at
-  inside : at ≤ to
-  bare : escapes q (slice from at s) ≡ slice from at s
+pub record Passing (q : Char) (s : List ℕ) (from to at : ℕ) : Type 0 where
+  pub forth : from ≤ at
+  pub inside : at ≤ to
+  pub bare : escapes q (slice from at s) ≡ slice from at s
 
-pass_start : (q : Char) (s : List ℕ) (from to : ℕ) → from ≤ to → Passing q s from to from
+pub pass_start : (q : Char) (s : List ℕ) (from to : ℕ) → from ≤ to → Passing q s from to from
 unfolding escapes
 pass_start q s from to h =
     record {
@@ -43,7 +43,7 @@ pass_start q s from to h =
       bare = rw (slice_empty from s);
     }
 
-pass_more : (q : Char) (s : List ℕ) (from to at : ℕ) → Passing q s from to at → at < to → to ≤ length s
+pub pass_more : (q : Char) (s : List ℕ) (from to at : ℕ) → Passing q s from to at → at < to → to ≤ length s
     → is_escaped q (get_or s at 0) ≡ false → Passing q s from to (at + 1)
 pass_more q s from to at p h k e =
     let f = part_more s from at p.forth (omega arith) in

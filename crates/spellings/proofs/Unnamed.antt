@@ -1,9 +1,9 @@
 -- A kind that no arm of the `match` names has no spelling. Assumes nothing.
 use mathlib.Core.Path.{◌≡◌, refl}
 use mathlib.Core.List.{List, [], ◌∷◌}
-use Prim.Native.Nat.{ℕ, zero, suc, ◌+◌}
+use Prim.Native.Nat.{ℕ, zero, suc, ◌+◌, ◌≤◌, ◌<◌}
 use types.Run.{OneOf}
-use lib.ListN.{get_or}
+use lib.ListN.{length, get_or, get_or-eq_default}
 use native.Mathlib.Omega.{arith}
 use Rattle.spellings.specs.Spelling.{spellings, spelling}
 
@@ -34,3 +34,10 @@ unnamed ((c ∷ w) ∷ rows) i ks (suc k) v e m = unnamed rows (suc i) (i ∷ ks
 
 pub no_spelling : (k : ℕ) → Missed (named spellings 0 []) k → spelling k ≡ []
 no_spelling k m = unnamed spellings 0 [] k k (omega arith) m
+
+kinds_all : length spellings ≡ 126
+kinds_all = refl
+
+-- A kind over 125 has no spelling.
+pub spelling_none : (k : ℕ) → 125 < k → spelling k ≡ []
+spelling_none k h = let t : length spellings ≤ k = omega (arith, kinds_all) in get_or-eq_default spellings [] t
