@@ -28,8 +28,8 @@ fn used_slots(u: Used) -> [u64; USED_SLOTS]
 
 // What tokenising a script would answer. It writes no buffer.
 pub fn measure(script: &[u8], answer: &mut [u64; USED_SLOTS]) -> u64
-    ensures value { result ≡ number_of (measure_answer script.now) }
     ensures answer_after { answer.new ≡ slots_after used_values (measure_answer script.now) answer.old }
+    ensures value { result ≡ number_of (measure_answer script.now) }
 {
     put_answer(lexer::measure(script).map(used_slots), answer)
 }

@@ -61,8 +61,8 @@ fn consumed(tokens: &[u8], place: usize, kind: u64) -> Result<(TokenRecord, bool
 
 // The token record at a place, and whether it is of the kind asked for. It moves on either way.
 pub fn consume(tokens: &[u8], place: usize, kind: u64, answer: &mut [u64; CONSUMED_SLOTS]) -> u64
-    ensures value { result ≡ number_of (consume_at tokens.now place kind).answer }
     ensures answer_after { answer.new ≡ slots_after (consumed_values (consume_at tokens.now place kind).place) (consume_at tokens.now place kind).answer answer.old }
+    ensures value { result ≡ number_of (consume_at tokens.now place kind).answer }
 {
     put_answer(consumed(tokens, place, kind).map(consumed_slots), answer)
 }
@@ -86,8 +86,8 @@ fn matched(tokens: &[u8], place: usize, kind: u64) -> Result<(bool, usize), Refu
 
 // Whether the token record at a place is of the kind asked for. It moves on only then.
 pub fn match_kind(tokens: &[u8], place: usize, kind: u64, answer: &mut [u64; MATCHED_SLOTS]) -> u64
-    ensures value { result ≡ number_of (match_at tokens.now place kind).answer }
     ensures answer_after { answer.new ≡ slots_after (matched_values (match_at tokens.now place kind).place) (match_at tokens.now place kind).answer answer.old }
+    ensures value { result ≡ number_of (match_at tokens.now place kind).answer }
 {
     put_answer(matched(tokens, place, kind).map(matched_slots), answer)
 }

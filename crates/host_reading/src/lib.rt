@@ -57,8 +57,8 @@ fn token_slots(next: (TokenRecord, usize)) -> [u64; TOKEN_SLOTS]
 
 // The token record at a place of the token buffer.
 pub fn next_token(tokens: &[u8], place: usize, answer: &mut [u64; TOKEN_SLOTS]) -> u64
-    ensures value { result ≡ number_of (next_at tokens.now place).answer }
     ensures answer_after { answer.new ≡ slots_after (token_values (next_at tokens.now place).place) (next_at tokens.now place).answer answer.old }
+    ensures value { result ≡ number_of (next_at tokens.now place).answer }
 {
     let next = record_reading::read::next_token(tokens, place);
     put_answer(next.map(token_slots), answer)
@@ -79,8 +79,8 @@ fn error_slots(next: (ErrorRecord, usize)) -> [u64; ERROR_SLOTS]
 
 // The error record at a place of the error buffer.
 pub fn next_error(errors: &[u8], place: usize, answer: &mut [u64; ERROR_SLOTS]) -> u64
-    ensures value { result ≡ number_of (next_error_at errors.now place).answer }
     ensures answer_after { answer.new ≡ slots_after (error_values (next_error_at errors.now place).place) (next_error_at errors.now place).answer answer.old }
+    ensures value { result ≡ number_of (next_error_at errors.now place).answer }
 {
     let next = record_reading::errors::next_error(errors, place);
     put_answer(next.map(error_slots), answer)
@@ -101,8 +101,8 @@ pub fn text_check<'a>(
     place: usize,
     answer: &mut [u64; CHECK_SLOTS],
 ) -> u64
-    ensures value { result ≡ number_of (text_check_at script.now texts.now tokens.now place) }
     ensures answer_after { answer.new ≡ slots_after no_values (text_check_at script.now texts.now tokens.now place) answer.old }
+    ensures value { result ≡ number_of (text_check_at script.now texts.now tokens.now place) }
 {
     let check = record_texts::text_check(script, texts, tokens, place);
     put_answer(check.map(no_slots), answer)

@@ -1,8 +1,9 @@
 -- `letter_at` meets its contract.
-use mathlib.Core.Path.{◌≡◌, sym, subst}
+use mathlib.Core.Path.{◌≡◌, refl, sym, ◌∙◌, ap, subst}
 use Rattle.std.specs.Prelude.{Err}
-use Rattle.std.proofs.lemmas.Result.{err_from_is_err_and}
+use Rattle.std.proofs.lemmas.Result.{err_from_is_err_and, IfErr-at_err}
 use Rattle.characters.specs.Utf8.{chars_at}
+use Rattle.spans.specs.declared.Position.{Position}
 use Rattle.bridge.specs.Bridge.{NextAt}
 use Rattle.letters.specs.Letters.{LetterAt}
 use Rattle.letters.proofs.LetterLaws.{char_bound, ends_now, ends_behind, letter_plain, back_two, letter_behind}
@@ -20,7 +21,8 @@ pub returns-in_err-e : goal.returns-in_err-e
 returns-in_err-e c =
     let x = err_from_is_err_and c.from_residual-in_err-e.result c.from_residual-in_err-e.ensures.1 in
     let d = rw c.in_err-e.ensures.ok_part at c.in_err-e.ensures.value in
-    let e : c.from_residual-in_err-e.result ≡ Err c.in_ok-c.q = cc (x.1, x.2, d) in
+    let q = IfErr-at_err (λ (p : Position). c.in_err-e.field-0.0 ≡ p) d refl in
+    let e : c.from_residual-in_err-e.result ≡ Err c.in_ok-c.q = x.1 ∙ ap Err (x.2 ∙ q) in
     let w = subst (NextAt c.args.text.now c.args.p) c.in_ok-c.ensures.ok_part c.look.ensures in
     subst (LetterAt c.args.text.now c.args.p) (sym e)
     (ends_behind c.args.text.now c.args.p c.in_ok-c.q c.in_ok-c.c w.0 c.if-c-eq-BACKSLASH.true
